@@ -1,0 +1,4 @@
+pub mod Tells
+pub mod Calls
+pub mod Shelves
+pub mod Ports
