@@ -1,0 +1,15 @@
+pub mod Bytes
+pub mod Tokens
+pub mod Lines
+pub mod Scanner
+pub mod Pending
+pub mod Environment
+pub mod Bare
+pub mod Log
+pub mod Errors
+pub mod World
+pub mod Moves
+pub mod Reads
+pub mod Region
+pub mod Frames
+pub mod Replies

@@ -1,0 +1,15 @@
+-- Tokens as a private TeX sees them: a name is its text. The TeXbook, chapter 7.
+use Rattle.std.specs.Prelude.{ℕ, List}
+use Rattle.tx_model.specs.declared.category.Cat.{Cat}
+
+pub data Token : Type 0 where
+  -- a character with its category
+  Char : Cat → ℕ → Token
+  -- a control sequence
+  Name : List ℕ → Token
+  -- an active character
+  Active : ℕ → Token
+  -- a parameter's number in a macro's text
+  Param : ℕ → Token
+  -- what stands between a macro's parameter text and its body
+  Stop : Token

@@ -1,0 +1,20 @@
+//! What holds of the definitions themselves.
+
+ghost use Rattle.std.specs.Prelude.{◌≡◌, ℕ, List};
+ghost use Rattle.tx_model.specs.Environment.{Map};
+ghost use Rattle.tx_model.specs.Moves.{Kind, Item};
+ghost use Rattle.tx_model.specs.World.{World};
+ghost use Rattle.tx_model.specs.Reads.{Result, Reads};
+ghost use Rattle.tx_model.specs.Region.{Outcome, Region};
+
+/// A reading ends in one way at the most.
+pub fn one_end()
+    ensures { (k : Kind) (items : List Item) (w : World) (r s : Result) → Reads k items w r → Reads k items w s → r ≡ s }
+{
+}
+
+/// A region has one outcome at the most.
+pub fn one_outcome()
+    ensures { (map : Map) (text : List ℕ) (budget : ℕ) (o p : Outcome) → Region map text budget o → Region map text budget p → o ≡ p }
+{
+}

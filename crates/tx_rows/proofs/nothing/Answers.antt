@@ -1,0 +1,12 @@
+use Rattle.std.proofs.Common.{refl}
+use Rattle.std.specs.Fmt.{digits}
+use Rattle.tx_model.specs.Scanner.{scanned}
+use Rattle.tx_model.specs.Pending.{next}
+use Rattle.tx_model.specs.Moves.{move_in}
+use Rattle.tx_model.specs.Reads.{reads}
+use Rattle.tx_model.specs.Region.{outcome_in}
+use Rattle.tx_rows.proofs.nothing.Goals as goal
+
+pub returns : goal.returns
+unfolding scanned next move_in reads outcome_in digits
+returns c = refl
