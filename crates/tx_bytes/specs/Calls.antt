@@ -1,9 +1,9 @@
 -- What each call of the outside does, by its answer.
-use Rattle.std.specs.Prelude.{◌≡◌, ℕ, ◌≤◌, List, [], ◌++◌, length, take, Some, IfSome}
-use Rattle.tx_bytes.specs.declared.Took.{Took}
-use Rattle.tx_bytes.specs.declared.Took.TheVariants as took
-use Rattle.tx_bytes.specs.declared.Put.{Put}
-use Rattle.tx_bytes.specs.declared.Put.TheVariants as put
+use Rattle.std.specs.Prelude.{◌≡◌, ℕ, ◌≤◌, List, [], ◌++◌, length, take, IfSome}
+use Rattle.tx_bytes.specs.declared.outside.Took.{Took}
+use Rattle.tx_bytes.specs.declared.outside.Took.TheVariants as took
+use Rattle.tx_bytes.specs.declared.outside.Put.{Put}
+use Rattle.tx_bytes.specs.declared.outside.Put.TheVariants as put
 use Rattle.tx_bytes.specs.Tells.{Tells, Grows, HasRisen, ReadsNext, Writes, Stays}
 
 -- After a read into a buffer that then holds these bytes.

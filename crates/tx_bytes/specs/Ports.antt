@@ -1,9 +1,9 @@
 -- A port that hands out links, and what its calls do.
-use Rattle.std.specs.Prelude.{◌≡◌, ℕ, ◌+◌, ◌<◌, ◌≤◌, Bool, true, false, List, [], ◌∷◌, ◌++◌, length, Option, None, Some, IfSome, slice_get}
-use Rattle.tx_bytes.specs.declared.Bound.{Bound}
-use Rattle.tx_bytes.specs.declared.Bound.TheVariants as bound
-use Rattle.tx_bytes.specs.declared.Knock.{Knock}
-use Rattle.tx_bytes.specs.declared.Knock.TheVariants as knock
+use Rattle.std.specs.Prelude.{◌≡◌, ℕ, ◌+◌, ◌≤◌, Bool, true, false, List, [], ◌∷◌, ◌++◌, length, Option, Some, IfSome, slice_get}
+use Rattle.tx_bytes.specs.declared.outside.Bound.{Bound}
+use Rattle.tx_bytes.specs.declared.outside.Bound.TheVariants as bound
+use Rattle.tx_bytes.specs.declared.outside.Knock.{Knock}
+use Rattle.tx_bytes.specs.declared.outside.Knock.TheVariants as knock
 use Rattle.tx_bytes.specs.Tells.{Tells, Grows, HasRisen}
 
 -- What a port tells of itself: how many of its calls failed, how many links it handed out, whether it

@@ -2,8 +2,8 @@
 use Rattle.std.specs.Prelude.{◌≡◌, ℕ, ◌<◌, ◌≤◌, List, [], ◌∷◌, length, Option, None, Some, IfSome, if◌then◌else◌}
 use Rattle.std.specs.Option.{IsSomeAnd}
 use Rattle.std.specs.Str.{bytes_eq}
-use Rattle.tx_bytes.specs.declared.Look.{Look}
-use Rattle.tx_bytes.specs.declared.Look.TheVariants as look
+use Rattle.tx_bytes.specs.declared.outside.Look.{Look}
+use Rattle.tx_bytes.specs.declared.outside.Look.TheVariants as look
 use Rattle.tx_bytes.specs.Tells.{Grows, HasRisen}
 
 -- a file by its name and its bytes

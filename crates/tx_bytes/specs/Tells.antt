@@ -1,6 +1,6 @@
 -- What an object of the outside tells of itself: how many of its calls failed, and, where it tells
 -- them, the bytes that were read of it, those that are left to read, and those that it got.
-use Rattle.std.specs.Prelude.{◌≡◌, ℕ, ◌+◌, ◌-◌, ◌^◌, ◌≤◌, min, List, [], ◌++◌, Option, None, Some}
+use Rattle.std.specs.Prelude.{◌≡◌, ℕ, ◌+◌, ◌-◌, ◌^◌, ◌≤◌, min, List, ◌++◌, Option, None, Some}
 
 pub record Tells : Type 0 where
   pub faults : ℕ
