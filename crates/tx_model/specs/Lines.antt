@@ -27,9 +27,9 @@ abbrev pub line_end : ℤ → List ℕ
 line_end (pos n) = if nat_lt n 256 then n ∷ [] else []
 line_end (negsuc n) = []
 
--- what the scanner reads of a line that it begins
-abbrev pub begun : ℤ → List ℕ → List ℕ
-begun end line = trimmed line ++ line_end end
+-- what the scanner reads of a line that it begins, where this is appended
+abbrev pub begun : List ℕ → List ℕ → List ℕ
+begun ending line = trimmed line ++ ending
 
 -- lines are numbered from 1, and all from 2^31-1 on have that number
 abbrev pub next_number : ℕ → ℕ

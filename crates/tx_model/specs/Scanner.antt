@@ -6,7 +6,7 @@ use Rattle.tx_model.specs.declared.category.Cat.TheVariants as cat
 use Rattle.tx_model.specs.declared.category.LineState.{LineState}
 use Rattle.tx_model.specs.declared.category.LineState.TheVariants.{NewLine, MidLine, SkippingBlanks}
 use Rattle.tx_model.specs.Bytes.{blank}
-use Rattle.tx_model.specs.Lines.{lines_of, begun, next_number}
+use Rattle.tx_model.specs.Lines.{lines_of, line_end, begun, next_number}
 use Rattle.tx_model.specs.Tokens.{Token, Char, Name}
 
 -- A rest of a text: the unread bytes of its line, its later lines, the number of its line, which is 0
@@ -61,6 +61,10 @@ after_name cats [] = MidLine
 after_name cats (b ∷ bytes) =
     if is_letter (cats b) then SkippingBlanks else if is_space (cats b) then SkippingBlanks else MidLine
 
+-- the name after an escape byte
+abbrev pub name_found : (ℕ → Cat) → List ℕ → Found
+name_found cats bytes = Finds (Name (name_text cats bytes)) (after_name cats bytes) (drop (length (name_text cats bytes)) bytes)
+
 -- the end of a line gives \par, a space or nothing, and the rest of the line is dropped
 abbrev pub at_line_end : LineState → Found
 at_line_end NewLine = Finds (Name (112 ∷ 97 ∷ 114 ∷ [])) NewLine []
@@ -69,8 +73,7 @@ at_line_end SkippingBlanks = LineUsed
 
 -- what a byte of this category, which does not give nothing, and the bytes after it give
 abbrev pub token_at : (ℕ → Cat) → LineState → Cat → ℕ → List ℕ → Found
-token_at cats state cat.Escape b bytes =
-    Finds (Name (name_text cats bytes)) (after_name cats bytes) (drop (length (name_text cats bytes)) bytes)
+token_at cats state cat.Escape b bytes = name_found cats bytes
 token_at cats state cat.Begin b bytes = Finds (Char cat.Begin b) MidLine bytes
 token_at cats state cat.End b bytes = Finds (Char cat.End b) MidLine bytes
 token_at cats state cat.Letter b bytes = Finds (Char cat.Letter b) MidLine bytes
@@ -96,16 +99,16 @@ pub data Scanned : Type 0 where
   Halts : Rest → Scanned
 
 -- where a line is used up, the next one is begun
-abbrev pub scanned_from : (ℕ → Cat) → ℤ → ℕ → Found → List (List ℕ) → Scanned
-scanned_from cats end number (Finds token state unread) later =
+abbrev pub scanned_from : (ℕ → Cat) → List ℕ → ℕ → Found → List (List ℕ) → Scanned
+scanned_from cats ending number (Finds token state unread) later =
     Gives token (record { unread = unread; later = later; number = number; state = state })
-scanned_from cats end number (Stops state unread) later =
+scanned_from cats ending number (Stops state unread) later =
     Halts (record { unread = unread; later = later; number = number; state = state })
-scanned_from cats end number LineUsed [] =
+scanned_from cats ending number LineUsed [] =
     Used (record { unread = []; later = []; number = number; state = NewLine })
-scanned_from cats end number LineUsed (line ∷ later) =
-    scanned_from cats end (next_number number) (found_in cats NewLine (begun end line)) later
+scanned_from cats ending number LineUsed (line ∷ later) =
+    scanned_from cats ending (next_number number) (found_in cats NewLine (begun ending line)) later
 
 -- what stands next, by these categories and this \endlinechar
 unfoldable pub scanned : (ℕ → Cat) → ℤ → Rest → Scanned
-scanned cats end rest = scanned_from cats end rest.number (found_in cats rest.state rest.unread) rest.later
+scanned cats end rest = scanned_from cats (line_end end) rest.number (found_in cats rest.state rest.unread) rest.later

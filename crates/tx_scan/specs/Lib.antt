@@ -1,0 +1,2 @@
+pub mod Scans
+pub use Rattle.tx_model.specs.Scanner

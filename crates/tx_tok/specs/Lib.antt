@@ -1,0 +1,1 @@
+pub use Rattle.tx_model.specs.Log
