@@ -1,0 +1,11 @@
+//! The gullet: from the tokens of a region to its outcome.
+#![tactic(auto)]
+
+mod engine;
+mod format;
+mod outcome;
+mod texts;
+
+pub use engine::run;
+pub use format::{Format, bare};
+pub use outcome::{Outcome, Output};
