@@ -2,3 +2,4 @@ pub mod Tells
 pub mod Calls
 pub mod Shelves
 pub mod Ports
+pub mod Memory

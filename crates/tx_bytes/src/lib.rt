@@ -4,8 +4,10 @@
 //! rose in it. What an object holds is told by those in memory and not by the real ones.
 #![tactic(auto)]
 
+mod memory;
 mod outside;
 mod values;
 
+pub use memory::{MemLink, MemSink, MemSource};
 pub use outside::{Bound, Gate, Knock, Link, Look, Port, Put, Shelf, Sink, Source, Told, Took};
 pub use values::{Bytes, File, Files, Word};
