@@ -1,6 +1,7 @@
 -- Objects of the outside that lie in memory: what they hold, and which of their calls fail.
-use Rattle.std.specs.Prelude.{◌≡◌, ℕ, ◌+◌, ◌-◌, ◌/◌, ◌^◌, ◌≤◌, ◌==◌, ◌⊎◌, min, nat_lt, Bool, List, [], ◌++◌, length, take, drop, map, Some, if◌then◌else◌}
-use Rattle.std.specs.List.{list_any}
+use Rattle.std.specs.Prelude.{◌≡◌, ℕ, ◌<◌, ◌+◌, ◌-◌, ◌/◌, ◌^◌, ◌≤◌, ◌==◌, ◌⊎◌, min, nat_lt, Bool, true, false, List, [], ◌∷◌, ◌++◌, length, take, drop, map, Some, if◌then◌else◌}
+use Rattle.std.specs.Option.{IsSomeAnd}
+use Rattle.std.specs.List.{list_any, slice_get}
 use Rattle.tx_bytes.specs.Tells.{Tells}
 use Rattle.tx_bytes.specs.Shelves.{Named, ShelfTells}
 use Rattle.tx_bytes.specs.Ports.{PortTells}
@@ -8,6 +9,12 @@ use Rattle.tx_bytes.specs.declared.outside.Took.{Took}
 use Rattle.tx_bytes.specs.declared.outside.Took.TheVariants as took
 use Rattle.tx_bytes.specs.declared.outside.Put.{Put}
 use Rattle.tx_bytes.specs.declared.outside.Put.TheVariants as put
+use Rattle.tx_bytes.specs.declared.outside.Look.{Look}
+use Rattle.tx_bytes.specs.declared.outside.Look.TheVariants as look
+use Rattle.tx_bytes.specs.declared.outside.Bound.{Bound}
+use Rattle.tx_bytes.specs.declared.outside.Bound.TheVariants as bound
+use Rattle.tx_bytes.specs.declared.outside.Knock.{Knock}
+use Rattle.tx_bytes.specs.declared.outside.Knock.TheVariants as knock
 
 -- The numbers of the calls that fail, how many calls there were, and how many of them failed. A
 -- call's number is the count of the calls before it.
@@ -106,21 +113,29 @@ pub record IsNewShelf (entries : List Named) (numbers : List ℕ) (held : HeldFi
 abbrev pub after_look : HeldFiles → HeldFiles
 after_look held = record { plan = after_call held.plan; files = held.files }
 
+-- After a copy of these bytes, if they are at most so many, into an empty buffer.
+abbrev pub AfterCopy : List ℕ → ℕ → Look → List ℕ → Type 0
+AfterCopy content limit look.Found out = (out ≡ content) × (length content ≤ limit)
+AfterCopy content limit look.Absent out = ⊥
+AfterCopy content limit look.Long out = (out ≡ []) × (limit < length content)
+AfterCopy content limit look.Failed out = ⊥
+AfterCopy content limit look.Memory out = out ≡ []
+
 -- a link to come: the bytes that will be left to read of it, and the numbers of its calls that fail
-pub record Coming : Type 0 where
+pub record LinkToCome : Type 0 where
   pub bytes : List ℕ
   pub failing : List ℕ
 
 -- what a port in memory holds
 pub record HeldPort : Type 0 where
   pub plan : Plan
-  pub links : List Coming
+  pub links : List LinkToCome
   pub handed : ℕ
   pub is_bound : Bool
   pub is_closed : Bool
   pub back : List Held
 
--- it tells all of it but for the numbers of its links' calls
+-- it tells all of it but for the numbers of calls
 abbrev pub port_tells_of : HeldPort → PortTells
 port_tells_of held = record {
   faults = held.plan.faults;
@@ -130,3 +145,45 @@ port_tells_of held = record {
   back = map tells_of held.back;
   links = Some (map (λ link. link.bytes) held.links);
 }
+
+-- nothing was called yet, these links are to come, and the calls with these numbers will fail
+pub record IsNewPort (coming : List LinkToCome) (numbers : List ℕ) (held : HeldPort) : Type 0 where
+  pub plan : IsNewPlan numbers held.plan
+  pub links : held.links ≡ coming
+  pub handed : held.handed ≡ 0
+  pub is_bound : held.is_bound ≡ false
+  pub is_closed : held.is_closed ≡ false
+  pub back : held.back ≡ []
+
+-- No more links are handed out than there are, no more came back than were handed out, there is room
+-- for all of these, and the port closes after its last link.
+pub record KeepsRoom (links handed back capacity : ℕ) (is_closed : Bool) : Type 0 where
+  pub out : handed ≤ links
+  pub returned : back ≤ handed
+  pub room : handed ≤ capacity
+  pub closed : is_closed ≡ true → links ≤ handed
+
+-- one call was counted, and nothing else happened
+abbrev pub idle_port : HeldPort → HeldPort
+idle_port held = record held { plan = after_call held.plan }
+
+-- the port after a binding with this answer
+abbrev pub after_bind : HeldPort → Bound → HeldPort
+after_bind held bound.Ready = record held { plan = after_call held.plan; is_bound = true }
+after_bind held bound.Failed = idle_port held
+
+-- After a wait for the next link.
+abbrev pub Accepts : HeldPort → Knock Held → HeldPort → Type 0
+-- it is the first of those not handed out yet, as new
+Accepts old (knock.Link link) new =
+    (old.is_closed ≡ false) × IsSomeAnd (slice_get old.links old.handed) (λ coming. IsNew coming.bytes coming.failing link)
+    × (new ≡ record old { plan = after_call old.plan; handed = old.handed + 1 })
+-- all were handed out
+Accepts old knock.Closed new =
+    (length old.links ≤ old.handed) × (new ≡ record old { plan = after_call old.plan; is_closed = true })
+Accepts old knock.Failed new = new ≡ idle_port old
+Accepts old knock.Memory new = new ≡ idle_port old
+
+-- the port after this link came back
+abbrev pub after_done : HeldPort → Held → HeldPort
+after_done held link = record held { back = held.back ++ link ∷ [] }

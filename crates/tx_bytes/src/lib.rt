@@ -8,6 +8,6 @@ mod memory;
 mod outside;
 mod values;
 
-pub use memory::{MemLink, MemSink, MemSource};
+pub use memory::{LinkPlan, MemLink, MemPort, MemShelf, MemSink, MemSource};
 pub use outside::{Bound, Gate, Knock, Link, Look, Port, Put, Shelf, Sink, Source, Told, Took};
 pub use values::{Bytes, File, Files, Word};

@@ -2,9 +2,13 @@
 
 mod failures;
 mod link;
+mod port;
+mod shelf;
 mod sink;
 mod source;
 
 pub use link::MemLink;
+pub use port::{LinkPlan, MemPort};
+pub use shelf::MemShelf;
 pub use sink::MemSink;
 pub use source::MemSource;
