@@ -4,8 +4,15 @@
 //! rose in it. What an object holds is told by those in memory and not by the real ones.
 #![tactic(auto)]
 
+mod memory;
 mod outside;
+mod real;
 mod values;
 
+pub use memory::{LinkPlan, MemLink, MemPort, MemShelf, MemSink, MemSource};
 pub use outside::{Bound, Gate, Knock, Link, Look, Port, Put, Shelf, Sink, Source, Told, Took};
+pub use real::{NoGate, StdSink, StdSource};
 pub use values::{Bytes, File, Files, Word};
+
+#[cfg(test)]
+mod tests;

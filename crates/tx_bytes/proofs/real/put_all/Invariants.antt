@@ -1,0 +1,11 @@
+use Rattle.std.proofs.Common.{◌≡◌, ℕ, List, ◌++◌, length}
+use Rattle.std.specs.Io.KnownBytes.{Appends}
+use Rattle.tx_bytes.proofs.real.put_all.Given as goal
+
+-- what isn't left to write was taken
+abbrev pub invariant-writes : goal.invariant-writes
+invariant-writes g l =
+    (front : List ℕ) × (l.bytes ≡ front ++ l.rest) × Appends (g.W.Write.contents l.fn.writer) (g.W.Write.contents l.writer) front
+
+abbrev pub decreases-writes : goal.decreases-writes
+decreases-writes g l = length l.rest
