@@ -1,0 +1,7 @@
+//! texd: a resident TeX.
+#![tactic(auto)]
+
+mod frames;
+mod input;
+
+fn main() {}
