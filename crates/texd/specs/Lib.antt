@@ -1,3 +1,4 @@
 pub mod Input
+pub mod Reply
 pub mod Once
 pub mod Top

@@ -20,6 +20,7 @@ const MAX_TEXT: usize = 1_048_576;
 pub const MAX_FRAME: usize = 1_048_600;
 
 /// A frame: a text to run, and the steps that it may spend.
+#[derive(Clone, Copy)]
 pub struct Frame<'a> {
     pub budget: u32,
     pub text: &'a [u8],

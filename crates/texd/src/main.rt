@@ -1,7 +1,62 @@
 //! texd: a resident TeX.
+//!
+//! `texd once` reads one region from standard input, typesets it and writes the reply. The call `texd`
+//! does all of it; `main` hands in the real outside.
 #![tactic(auto)]
 
 mod frames;
 mod input;
+mod once;
+mod replies;
+#[cfg(test)]
+mod tests;
+mod top;
 
-fn main() {}
+use crate::top::{ExitStatus, texd};
+use std::alloc::AllocError;
+use std::env;
+use std::process::ExitCode;
+use tx_bytes::{File, Files, MemPort, MemShelf, NoGate, StdSink, StdSource, Word};
+
+/// The words of the command line, without the program's name. Words that are no text are an error of
+/// their own, which no command takes.
+fn words(rt: &HostRuntime) -> Result<Vec<Word>, ExitStatus> {
+    let Ok(arguments) = env::args(rt) else {
+        return Err(ExitStatus::Refused);
+    };
+    let mut words = Vec::new(rt.alloc());
+    for argument in arguments.skip(1) {
+        if words.push(Word::new(argument)).is_err() {
+            return Err(ExitStatus::Memory);
+        }
+    }
+    Ok(words)
+}
+
+fn main(rt: HostRuntime) -> ExitCode {
+    let alloc = rt.alloc();
+    let words = match words(&rt) {
+        Ok(words) => words,
+        Err(status) => return ExitCode::from(status as u8),
+    };
+    let mut shelf = MemShelf::new(
+        Files {
+            entries: Vec::new(alloc),
+        },
+        Vec::new(alloc),
+    );
+    let mut port = MemPort::new(alloc, Vec::new(alloc), Vec::new(alloc));
+    let mut input = StdSource::new(rt.stdin());
+    let mut output = StdSink::new(rt.stdout());
+    let status = texd(
+        &rt,
+        alloc,
+        words.as_slice(),
+        &mut shelf,
+        &mut input,
+        &mut output,
+        &mut port,
+        &NoGate,
+    );
+    ExitCode::from(status)
+}

@@ -22,8 +22,7 @@ status_word status.Spent = codes "SPENT"
 -- a header of five words: the status, steps, pages, and the lengths of the DVI and of the log
 abbrev pub header : List ℕ → ℕ → ℕ → ℕ → ℕ → List ℕ
 header word steps pages dvi log =
-    word ++ blank ∷ [] ++ decimal steps ++ blank ∷ [] ++ decimal pages ++ blank ∷ [] ++ decimal dvi ++ blank ∷ [] ++ decimal log
-    ++ newline ∷ []
+    word ++ (blank ∷ decimal steps) ++ (blank ∷ decimal pages) ++ (blank ∷ decimal dvi) ++ (blank ∷ decimal log) ++ newline ∷ []
 
 abbrev pub reply_bytes : Reply → List ℕ
 reply_bytes (Answer o) = header (status_word o.status) o.steps o.pages (length o.dvi) (length o.log) ++ o.dvi ++ o.log

@@ -1,0 +1,116 @@
+//! The program over objects in memory.
+
+use crate::top::texd;
+use std::process::Abort;
+use std::test::Fail;
+use tx_bytes::{File, Files, MemPort, MemShelf, MemSink, MemSource, NoGate, Word};
+
+/// A run of the program with these words on this input, of which the calls of input and output with
+/// these numbers fail: the status, and what was written.
+fn play(
+    rt: &HostRuntime,
+    words: &[&str],
+    input: &[u8],
+    reads_failing: &[u64],
+    writes_failing: &[u64],
+) -> Result<(u8, Vec<u8>), Fail> {
+    let alloc = rt.alloc();
+    let mut list = Vec::new(alloc);
+    for word in words {
+        list.push(Word::new(String::from_str(alloc, word)?))?;
+    }
+    let mut shelf = MemShelf::new(
+        Files {
+            entries: Vec::new(alloc),
+        },
+        Vec::new(alloc),
+    );
+    let mut port = MemPort::new(alloc, Vec::new(alloc), Vec::new(alloc));
+    let mut source = MemSource::new(input.to_vec(alloc)?, reads_failing.to_vec(alloc)?);
+    let mut sink = MemSink::new(alloc, writes_failing.to_vec(alloc)?);
+    let status = texd(
+        rt,
+        alloc,
+        list.as_slice(),
+        &mut shelf,
+        &mut source,
+        &mut sink,
+        &mut port,
+        &NoGate,
+    );
+    Ok((status, sink.got().to_vec(alloc)?))
+}
+
+/// What `once` writes for one input, and its status, where no call fails.
+fn check(rt: &HostRuntime, input: &str, status: u8, output: &str) -> Result<(), Fail> {
+    let (code, written) = play(rt, &["once"], input.as_bytes(), &[], &[])?;
+    assert_eq!(rt; code, status, "{input}");
+    assert_eq!(rt; written.as_slice(), output.as_bytes(), "{input}");
+    Ok(())
+}
+
+#[test]
+fn regions(rt: HostRuntime) -> Result<(), Fail> {
+    check(&rt, "REGION 100 0\n", 0, "DONE 0 0 0 0\n")?;
+    check(&rt, "REGION 1 6\n\\relax", 0, "DONE 1 0 0 0\n")?;
+    check(&rt, "REGION 1 12\n\\relax\\relax", 0, "SPENT 1 0 0 0\n")?;
+    check(
+        &rt,
+        "REGION 1000 1\nx",
+        0,
+        "FAIL 1 0 0 37\n! This command is not built yet.\nl.1\n",
+    )?;
+    check(
+        &rt,
+        "REGION 1000 13\n\\par  \n\n \\zz\nx",
+        0,
+        "FAIL 3 0 0 34\n! Undefined control sequence.\nl.3\n",
+    )
+}
+
+#[test]
+fn inputs_that_are_no_frame(rt: HostRuntime) -> Result<(), Fail> {
+    for input in [
+        "",
+        "REGION 0 5\n12345",
+        "REGION 10000001 5\n12345",
+        "REGION 01 5\n12345",
+        "REGION 5 4\nab",
+        "REGION 5 1\nab",
+        "REGION +5 1\na",
+        "REGION 5 99999999999\na",
+        "REGION 5",
+        "BYE\n",
+        "x",
+    ] {
+        check(&rt, input, 7, "")?;
+    }
+    Ok(())
+}
+
+#[test]
+fn words_that_are_refused(rt: HostRuntime) -> Result<(), Fail> {
+    let frame = b"REGION 1 0\n".as_slice();
+    for words in [
+        [].as_slice(),
+        ["twice"].as_slice(),
+        ["once", "a.tex"].as_slice(),
+    ] {
+        let (code, written) = play(&rt, words, frame, &[], &[])?;
+        assert_eq!(rt; code, 2);
+        assert_eq!(rt; written.len(), 0);
+    }
+    Ok(())
+}
+
+#[test]
+fn calls_that_fail(rt: HostRuntime) -> Result<(), Fail> {
+    let frame = b"REGION 1 0\n".as_slice();
+    let (code, written) = play(&rt, &["once"], frame, &[1], &[])?;
+    assert_eq!(rt; code, 5);
+    assert_eq!(rt; written.len(), 0);
+    let (code, written) = play(&rt, &["once"], frame, &[], &[0])?;
+    assert_eq!(rt; code, 6);
+    assert_eq!(rt; written.as_slice(), b"DONE 0".as_slice());
+    Ok(())
+}
