@@ -1,0 +1,4 @@
+pub mod DivisionLemmas
+pub mod BadnessLemmas
+pub mod DecimalsLemmas
+pub mod PartLemmas

@@ -1,0 +1,17 @@
+//! The numbers of TeX: scaled points, glue, badness, ratios, and decimals.
+#![tactic(auto)]
+
+mod decimals;
+mod glue;
+pub mod laws;
+mod points;
+mod quantities;
+mod ratios;
+mod stretching;
+
+pub use decimals::{print_sp, round_digits};
+pub use glue::{GlueSpec, Order};
+pub use stretching::badness;
+pub use points::{Pairs, Sp, Sps, sum};
+pub use quantities::{ErrorNo, Feed, Quant, QuantKind, Want};
+pub use ratios::Ratio;
