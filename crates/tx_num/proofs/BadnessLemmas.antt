@@ -52,8 +52,8 @@ long_division t more s positive below =
 ratio-le_wide : (t more s : ℕ) → 1663497 ≤ s → t ≤ more → stretch_ratio t s ≤ more / (s / 297)
 ratio-le_wide t more s wide below =
     elim (cases_lt 7230584 t) [
-      inl large ↦ rw (ratio_wide t s large wide) (div-le-div_left t more (s / 297) (omega arith) below)
-    | inr small ↦ rw (ratio_small t s small) (long_division t more s (omega arith) below)
+      | inl large ↦ rw (ratio_wide t s large wide) (div-le-div_left t more (s / 297) (omega arith) below)
+      | inr small ↦ rw (ratio_small t s small) (long_division t more s (omega arith) below)
     ]
 
 awful-le : (r t s : ℕ) → 7230584 < t → s < 1663497 → cubed r ≤ cubed (stretch_ratio t s)
@@ -64,25 +64,25 @@ awful-le r t s large narrow =
 cubed-grows : (t more s : ℕ) → 0 < s → t ≤ more → cubed (stretch_ratio t s) ≤ cubed (stretch_ratio more s)
 cubed-grows t more s positive below =
     elim (cases_lt 7230584 more) [
-      inl large ↦ elim (cases_lt s 1663497) [
-        inl narrow ↦ awful-le _ more s large narrow
-      | inr wide ↦ cubed-le-cubed _ _ (rw (ratio_wide more s large wide) (ratio-le_wide t more s wide below))
+      | inl large ↦ elim (cases_lt s 1663497) [
+        | inl narrow ↦ awful-le _ more s large narrow
+        | inr wide ↦ cubed-le-cubed _ _ (rw (ratio_wide more s large wide) (ratio-le_wide t more s wide below))
       ]
-    | inr small ↦
-        let few : t ≤ 7230584 = omega arith in
-        cubed-le-cubed _ _ (rw (ratio_small t s few, ratio_small more s small) (div-le-div_left (t * 297) (more * 297) s positive (omega arith)))
+      | inr small ↦
+          let few : t ≤ 7230584 = omega arith in
+          cubed-le-cubed _ _ (rw (ratio_small t s few, ratio_small more s small) (div-le-div_left (t * 297) (more * 297) s positive (omega arith)))
     ]
 
 cubed-falls : (t s more : ℕ) → 0 < s → s ≤ more → cubed (stretch_ratio t more) ≤ cubed (stretch_ratio t s)
 cubed-falls t s more positive below =
     elim (cases_lt 7230584 t) [
-      inl large ↦ elim (cases_lt s 1663497) [
-        inl narrow ↦ awful-le _ t s large narrow
-      | inr wide ↦
-          let wider : 1663497 ≤ more = omega arith in
-          cubed-le-cubed _ _ (rw (ratio_wide t s large wide, ratio_wide t more large wider) (div-le-div_right t (s / 297) (more / 297) (omega arith) (omega arith)))
+      | inl large ↦ elim (cases_lt s 1663497) [
+        | inl narrow ↦ awful-le _ t s large narrow
+        | inr wide ↦
+            let wider : 1663497 ≤ more = omega arith in
+            cubed-le-cubed _ _ (rw (ratio_wide t s large wide, ratio_wide t more large wider) (div-le-div_right t (s / 297) (more / 297) (omega arith) (omega arith)))
       ]
-    | inr small ↦ cubed-le-cubed _ _ (rw (ratio_small t s small, ratio_small t more small) (div-le-div_right (t * 297) s more positive below))
+      | inr small ↦ cubed-le-cubed _ _ (rw (ratio_small t s small, ratio_small t more small) (div-le-div_right (t * 297) s more positive below))
     ]
 
 -- the cases of badness, for any two ratios

@@ -1,4 +1,7 @@
 pub mod DivisionLemmas
 pub mod BadnessLemmas
-pub mod DecimalsLemmas
 pub mod PartLemmas
+pub mod TextLemmas
+pub mod DecimalsLemmas
+pub mod RoundingLemmas
+pub mod ShownLemmas

@@ -1,8 +1,13 @@
 -- What is proved of the definitions.
-use Rattle.std.specs.Prelude.{◌≡◌, ℕ, ◌+◌, ◌*◌, ◌/◌, ◌%◌, ◌<◌, ◌≤◌, ℤ, ◌≤ℤ◌, neg_ℤ}
+use Rattle.std.specs.Prelude.{◌≡◌, ℕ, ◌+◌, ◌*◌, ◌/◌, ◌%◌, ◌^◌, ◌<◌, ◌≤◌, List, ◌∷◌, ◌++◌, length, map, All, ℤ, ◌≤ℤ◌, neg_ℤ, unsigned_abs}
+use Rattle.std.specs.Char.{digit_value}
+use Rattle.std.specs.Int.Digits.{number_from_digits}
+use Rattle.std.specs.Str.Parse.{IsNumeral, digits_value}
+use Rattle.tx_num.specs.Ranges.{IsDimension}
+use Rattle.tx_num.specs.Quotients.{nearest}
 use Rattle.tx_num.specs.Badness.{badness}
 use Rattle.tx_num.specs.Fractions.{Fraction, IsRatio, part}
-use Rattle.tx_num.specs.Decimals.{decimals, round_digits}
+use Rattle.tx_num.specs.Decimals.{decimals, minus_if_negative, round_digits, shown_sp}
 
 abbrev pub BadnessGrows : Type 0
 BadnessGrows = (s t more : ℤ) → t ≤ℤ more → badness t s ≤ badness more s
@@ -21,3 +26,31 @@ PartGrows = (r : Fraction) → IsRatio r → (sum more : ℤ) → sum ≤ℤ mor
 
 abbrev pub DecimalsReadBack : Type 0
 DecimalsReadBack = (fraction : ℕ) → fraction < 65536 → round_digits (decimals fraction) ≡ fraction
+
+abbrev pub DecimalsAreDigits : Type 0
+DecimalsAreDigits =
+    (fraction : ℕ) → fraction < 65536 →
+    All (λ digit. digit ≤ 9) (decimals fraction) × (0 < length (decimals fraction)) × (length (decimals fraction) ≤ 5)
+
+abbrev pub DecimalsAreFewest : Type 0
+DecimalsAreFewest =
+    (fraction : ℕ) → fraction < 65536 → (digits : List ℕ) → 0 < length digits → All (λ digit. digit ≤ 9) digits →
+    round_digits digits ≡ fraction → length (decimals fraction) ≤ length digits
+
+-- digits after the point are rounded to the nearest 65536th, a tie up
+abbrev pub DigitsAreRounded : Type 0
+DigitsAreRounded =
+    (digits : List ℕ) → round_digits digits ≡ nearest (65536 * number_from_digits 10 digits) (10 ^ length digits)
+
+-- the text of v is a numeral, a point and a numeral, with a minus before them if v is negative, and
+-- the points and the rounded decimals make up v
+pub record ReadsBack (v : ℤ) : Type 0 where
+  pub whole : List ℕ
+  pub fraction : List ℕ
+  pub text : shown_sp v ≡ minus_if_negative v ++ whole ++ 46 ∷ fraction
+  pub whole_digits : IsNumeral 10 whole
+  pub fraction_digits : IsNumeral 10 fraction
+  pub value : 65536 * digits_value 10 whole + round_digits (map digit_value fraction) ≡ unsigned_abs v
+
+abbrev pub DimensionsReadBack : Type 0
+DimensionsReadBack = (v : ℤ) → IsDimension v → ReadsBack v

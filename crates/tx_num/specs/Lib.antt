@@ -1,4 +1,4 @@
-pub mod Dimensions
+pub mod Ranges
 pub mod Quotients
 pub mod Fractions
 pub mod Badness

@@ -52,7 +52,7 @@ fn push_decimals(text: &mut Vec<u8>, fraction: u32) -> Result<(), AllocError>
         s = 10 * (top % UNITY);
         delta = 10 * delta;
         if s <= delta {
-            break;
+            break 'digits;
         }
     }
     Ok(())
@@ -76,7 +76,7 @@ pub fn round_digits(digits: &[u8]) -> u32
     ensures { result ≡ round_digits digits.now }
 {
     let mut scaled = 0;
-    'digits: for i in (0..digits.len()).rev() {
+    for i in (0..digits.len()).rev() {
         scaled = (scaled + u32::from(digits[i]) * 2 * UNITY) / 10;
     }
     (scaled + 1) / 2

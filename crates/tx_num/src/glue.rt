@@ -29,3 +29,14 @@ pub struct GlueSpec {
     /// The order of the shrink.
     pub shrink_order: Order,
 }
+
+impl GlueSpec {
+    /// No glue at all.
+    pub const ZERO: GlueSpec = GlueSpec {
+        width: Sp::ZERO,
+        stretch: Sp::ZERO,
+        stretch_order: Order::Finite,
+        shrink: Sp::ZERO,
+        shrink_order: Order::Finite,
+    };
+}

@@ -1,6 +1,6 @@
 //! What is proved of the definitions. Each function here does nothing: its contract is the law.
 
-ghost use Rattle.tx_num.specs.Laws.{BadnessFalls, BadnessGrows, BadnessIsBounded, DecimalsReadBack, PartGrows, PartIsOdd};
+ghost use Rattle.tx_num.specs.Laws.{BadnessFalls, BadnessGrows, BadnessIsBounded, DecimalsAreDigits, DecimalsAreFewest, DecimalsReadBack, DigitsAreRounded, DimensionsReadBack, PartGrows, PartIsOdd};
 
 /// The more is to be stretched, the worse.
 pub fn badness_grows()
@@ -30,4 +30,24 @@ pub fn part_grows()
 /// The decimals that are printed for so many 65536ths read back as them.
 pub fn decimals_read_back()
     ensures { DecimalsReadBack }
+{}
+
+/// No fewer decimals, but at least one, read back as the same 65536ths.
+pub fn decimals_are_fewest()
+    ensures { DecimalsAreFewest }
+{}
+
+/// Between one and five decimals are printed, and each is from 0 to 9.
+pub fn decimals_are_digits()
+    ensures { DecimalsAreDigits }
+{}
+
+/// Decimals are rounded to the nearest 65536th, a tie up.
+pub fn digits_are_rounded()
+    ensures { DigitsAreRounded }
+{}
+
+/// The text that is printed for a dimension reads back as it.
+pub fn dimensions_read_back()
+    ensures { DimensionsReadBack }
 {}

@@ -11,7 +11,10 @@ mod stretching;
 
 pub use decimals::{print_sp, round_digits};
 pub use glue::{GlueSpec, Order};
-pub use stretching::badness;
 pub use points::{Pairs, Sp, Sps, sum};
-pub use quantities::{ErrorNo, Feed, Quant, QuantKind, Want};
+pub use quantities::{ErrorNo, Feed, Quant, QuantKind, Want, integer};
 pub use ratios::Ratio;
+pub use stretching::badness;
+
+#[cfg(test)]
+mod tests;

@@ -1,7 +1,7 @@
 //! Scaled points.
 
 ghost use Rattle.std.specs.Prelude.{◌+ℤ◌, ◌≡◌, SomeIff};
-ghost use Rattle.tx_num.specs.Dimensions.{IsDimension, dimension};
+ghost use Rattle.tx_num.specs.Ranges.{IsDimension, dimension};
 
 use std::marker::Model;
 
@@ -12,7 +12,7 @@ pub struct Sp(pub i32);
 
 impl Model for Sp {
     ghost use Rattle.std.specs.Prelude.{ℤ};
-    ghost use Rattle.tx_num.specs.Dimensions.{IsDimension};
+    ghost use Rattle.tx_num.specs.Ranges.{IsDimension};
 
     ghost Value = { ℤ };
 
@@ -45,6 +45,18 @@ impl Sp {
         }
     }
 
+    /// The same of a wider number, such as a total of dimensions.
+    pub fn from_i64(value: i64) -> Option<Self>
+        ensures value { result ≡ dimension value }
+        ensures cases { SomeIff result (IsDimension value) value }
+    {
+        if value.unsigned_abs() < 1 << 30 {
+            Some(Sp(value as i32))
+        } else {
+            None
+        }
+    }
+
     /// How many scaled points it is.
     pub fn get(self) -> i32
         ensures value { result ≡ self }
@@ -63,7 +75,7 @@ pub fn sum(a: Sp, b: Sp) -> Option<Sp>
 }
 
 /// A list of dimensions. A contract sees it as the list of their numbers.
-#[derive(Debug, Drop)]
+#[derive(Clone, Debug, Drop)]
 pub struct Sps(pub Vec<Sp>);
 
 impl Model for Sps {
@@ -76,7 +88,7 @@ impl Model for Sps {
 
 /// A list of pairs of dimensions, as the indents and widths of `\parshape`. A contract sees it as the
 /// list of the pairs of their numbers.
-#[derive(Debug, Drop)]
+#[derive(Clone, Debug, Drop)]
 pub struct Pairs(pub Vec<(Sp, Sp)>);
 
 impl Model for Pairs {

@@ -1,5 +1,8 @@
 //! The quantities that readings give, and how the automata of the readings answer.
 
+ghost use Rattle.std.specs.Prelude.{◌≡◌, SomeIff};
+ghost use Rattle.tx_num.specs.Ranges.{IsInteger, integer};
+
 use crate::glue::GlueSpec;
 use crate::points::Sp;
 
@@ -27,6 +30,19 @@ pub enum Quant {
     Glue(GlueSpec),
     /// Math glue.
     Mu(GlueSpec),
+}
+
+/// A number as an integer of TeX. None comes exactly where it is none, which -2^31 is too
+/// (*TeX: The Program*, section 445).
+pub fn integer(value: i64) -> Option<i32>
+    ensures value { result ≡ integer value }
+    ensures cases { SomeIff result (IsInteger value) value }
+{
+    if value.unsigned_abs() < 1 << 31 {
+        Some(value as i32)
+    } else {
+        None
+    }
 }
 
 /// How the next token of a reading is to be taken.

@@ -1,5 +1,5 @@
 use Rattle.std.proofs.Common.{arith}
-use Rattle.tx_num.proofs.DecimalsLemmas.{text_full, text_last, text_next}
+use Rattle.tx_num.proofs.TextLemmas.{text_full, text_last, text_next}
 use Rattle.tx_num.proofs.decimals.push_decimals.Goals as goal
 
 pub digits-preserved : goal.digits-preserved
@@ -15,5 +15,5 @@ returns-after-digits c = record { ok = text_full _ _ c.digits.counter c.digits.s
 
 pub returns-then-s-delta : goal.returns-then-s-delta
 returns-then-s-delta c = record {
-  ok = text_last _ _ _ _ _ _ _ c.digits-test.true c.to_last_digit-top.ensures.value c.if-s-delta.true c.digits.invariant.text c.in_ok-push.ensures.items
+  ok = text_last _ _ _ _ _ _ _ c.digits-test.true c.to_last_digit-top.ensures.value c.if-s-delta.true c.digits.invariant.text c.in_ok-push.ensures.items;
 }

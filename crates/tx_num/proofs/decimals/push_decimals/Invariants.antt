@@ -8,5 +8,5 @@ invariant-digits l = record {
   tolerance : l.delta ≤ 655355;
   last : 65536 < l.delta → l.delta < l.s;
   text : l.text.items ++ map (λ digit. 48 + digit) (decimals_below (5 - l.counter) l.s l.delta)
-    ≡ l.fn.text.items ++ map (λ digit. 48 + digit) (decimals l.fraction)
+      ≡ l.fn.text.items ++ map (λ digit. 48 + digit) (decimals l.fraction);
 }
