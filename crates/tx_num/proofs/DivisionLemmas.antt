@@ -1,7 +1,7 @@
 -- How quotients compare.
-use Rattle.std.proofs.Common.{ℕ, ◌*◌, ◌/◌, ◌<◌, ◌≤◌, arith}
+use Rattle.std.proofs.Common.{ℕ, ◌/◌, ◌<◌, ◌≤◌, arith}
 use Rattle.std.proofs.Math.Nat.{div-mul-le_self, mul-le-mul_left}
-use Rattle.std.proofs.lemmas.Nat.{le-div, mul-le}
+use Rattle.std.proofs.lemmas.Nat.{le-div}
 
 -- the larger is divided, the larger the quotient
 pub div-le-div_left : (a b c : ℕ) → 0 < c → a ≤ b → a / c ≤ b / c

@@ -1,6 +1,6 @@
 -- The part of a sum.
-use Rattle.std.proofs.Common.{◌≡◌, ℕ, zero, suc, ◌+◌, ◌*◌, ◌/◌, ◌^◌, ◌<◌, ◌≤◌, arith, refl, ap, ◌∙◌, sym, min}
-use Rattle.std.specs.Prelude.{ℤ, pos, negsuc, neg_ℤ, ◌≤ℤ◌, ◌<ℤ◌, ◌*ℤ◌, ◌-ℤ◌, unsigned_abs}
+use Rattle.std.proofs.Common.{◌≡◌, ℕ, zero, suc, ◌+◌, ◌*◌, ◌/◌, ◌<◌, ◌≤◌, arith, refl, ap, ◌∙◌, sym, min}
+use Rattle.std.specs.Prelude.{ℤ, pos, negsuc, neg_ℤ, ◌≤ℤ◌, ◌<ℤ◌, ◌*ℤ◌, unsigned_abs}
 use Rattle.std.proofs.Math.IntN.{*ℤ-negsuc, *ℤ-zero, neg_ℤ-neg_ℤ}
 use Rattle.std.proofs.Math.Nat.{div-eq_of_lt, mul-le-mul_left}
 use Rattle.std.proofs.lemmas.Int.{ints, clamps}

@@ -1,5 +1,5 @@
 -- Decimals are rounded to the nearest 65536th.
-use Rattle.std.proofs.Common.{◌≡◌, ℕ, suc, ◌+◌, ◌*◌, ◌/◌, ◌^◌, ◌<◌, ◌≤◌, List, [], ◌∷◌, length, refl, arith, ap, ◌∙◌, sym}
+use Rattle.std.proofs.Common.{◌≡◌, ℕ, ◌+◌, ◌*◌, ◌/◌, ◌^◌, ◌<◌, List, [], ◌∷◌, length, refl, arith, ap, ◌∙◌, sym}
 use Rattle.std.specs.Int.Digits.{number_from_digits, number_from_digits_after}
 use Rattle.std.proofs.Math.Nat.{add-mul-div_right, add-div_right, div-div-eq-div-mul, one-le-pow, pow-suc}
 use Rattle.tx_num.specs.Decimals.{decimals_scaled, round_digits}

@@ -1,5 +1,5 @@
 -- The text that the loop over the decimals has made so far.
-use Rattle.std.proofs.Common.{◌≡◌, ℕ, suc, ◌+◌, ◌-◌, ◌*◌, ◌/◌, ◌%◌, ◌<◌, ◌≤◌, List, [], ◌∷◌, ◌++◌, map, cond, leb, refl, arith, ap, append_assoc, append-nil, ◌∙◌, sym, true, false}
+use Rattle.std.proofs.Common.{◌≡◌, ℕ, suc, ◌+◌, ◌-◌, ◌*◌, ◌/◌, ◌%◌, ◌<◌, ◌≤◌, List, [], ◌∷◌, ◌++◌, map, cond, leb, refl, arith, append_assoc, append-nil, ◌∙◌, sym}
 use Rattle.std.proofs.lemmas.Bool.{le-leb, lt-leb}
 use Rattle.tx_num.specs.Decimals.{decimals_below, to_last_digit}
 

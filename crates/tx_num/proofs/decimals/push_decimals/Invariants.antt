@@ -1,4 +1,4 @@
-use Rattle.std.proofs.Common.{◌≡◌, ℕ, ◌+◌, ◌-◌, ◌*◌, ◌<◌, ◌≤◌, ◌++◌, map}
+use Rattle.std.proofs.Common.{◌≡◌, ◌+◌, ◌-◌, ◌<◌, ◌≤◌, ◌++◌, map}
 use Rattle.tx_num.specs.Decimals.{decimals_below, decimals}
 use Rattle.tx_num.proofs.decimals.push_decimals.Given as goal
 

@@ -1,4 +1,3 @@
-use Rattle.std.proofs.Common.{arith}
 use Rattle.tx_num.proofs.BadnessLemmas.{badness-le}
 use Rattle.tx_num.proofs.laws.badness_is_bounded.Goals as goal
 

@@ -3,7 +3,7 @@ use Rattle.std.specs.Int.{w64, cast_signed, cast_unsigned}
 use Rattle.std.specs.Prelude.{FitsSigned, ◌<ℤ◌, ◌-ℤ◌, pos, neg_ℤ}
 use Rattle.std.proofs.lemmas.Int.{ints, to_z-of_z}
 use Rattle.tx_num.specs.Fractions.{part}
-use Rattle.tx_num.proofs.PartLemmas.{part_negative, part_not_negative}
+use Rattle.tx_num.proofs.PartLemmas.{part_negative}
 use Rattle.tx_num.proofs.ratios.Ratio.part.Goals as goal
 
 pub returns-then-sum-lt0 : goal.returns-then-sum-lt0
