@@ -5,3 +5,4 @@ pub mod TextLemmas
 pub mod DecimalsLemmas
 pub mod RoundingLemmas
 pub mod ShownLemmas
+pub mod Rows

@@ -1,7 +1,9 @@
 -- Badness (TeX: The Program, section 108).
 use Rattle.std.specs.Prelude.{ℕ, ◌+◌, ◌*◌, ◌/◌, ◌^◌, nat_le, nat_lt, if◌then◌else◌, ℤ, pos, int_le, unsigned_abs}
 
--- About 297 times t over s: the third power of 297 is about a hundred times 2^18. Products are small.
+-- About 297 times t over s: the third power of 297 is about a hundred times 2^18. Up to 7230584 the
+-- product stays below 2^31, and from 1663497 on s / 297 is exact enough. Where t is above the one and
+-- s below the other, the ratio is above 1290, and t stands for it.
 abbrev pub stretch_ratio : ℕ → ℕ → ℕ
 stretch_ratio t s =
     if nat_le t 7230584 then t * 297 / s else if nat_le 1663497 s then t / (s / 297) else t

@@ -8,7 +8,7 @@ pub record Fraction : Type 0 where
   pub num : ℤ
   pub den : ℤ
 
--- it is a number, and at least zero
+-- it is at least 0, and its denominator is above 0
 pub record IsRatio (r : Fraction) : Type 0 where
   pub num : pos 0 ≤ℤ r.num
   pub den : pos 0 <ℤ r.den

@@ -9,29 +9,42 @@ use Rattle.tx_num.specs.Badness.{badness}
 use Rattle.tx_num.specs.Fractions.{Fraction, IsRatio, part}
 use Rattle.tx_num.specs.Decimals.{decimals, minus_if_negative, round_digits, shown_sp}
 
+-- the more is to be stretched or shrunk, the worse
 abbrev pub BadnessGrows : Type 0
 BadnessGrows = (s t more : ℤ) → t ≤ℤ more → badness t s ≤ badness more s
 
+-- the more can be had, the better
 abbrev pub BadnessFalls : Type 0
 BadnessFalls = (t s more : ℤ) → s ≤ℤ more → badness t more ≤ badness t s
 
+-- 10000 stands for all that is worse
 abbrev pub BadnessIsBounded : Type 0
 BadnessIsBounded = (t s : ℤ) → badness t s ≤ 10000
 
+-- half of d, or less, lies between n and the multiple of d nearest to it; between two such, the upper
+abbrev pub QuotientsAreNearest : Type 0
+QuotientsAreNearest =
+    (n d : ℕ) → 0 < d → (2 * (nearest n d * d) ≤ 2 * n + d) × (2 * n < 2 * (nearest n d * d) + d)
+
+-- the part of the opposite sum is the opposite part
 abbrev pub PartIsOdd : Type 0
 PartIsOdd = (r : Fraction) (sum : ℤ) → part r (neg_ℤ sum) ≡ neg_ℤ (part r sum)
 
+-- the part of a larger sum is no smaller
 abbrev pub PartGrows : Type 0
 PartGrows = (r : Fraction) → IsRatio r → (sum more : ℤ) → sum ≤ℤ more → part r sum ≤ℤ part r more
 
+-- what is printed reads back
 abbrev pub DecimalsReadBack : Type 0
 DecimalsReadBack = (fraction : ℕ) → fraction < 65536 → round_digits (decimals fraction) ≡ fraction
 
+-- one to five decimals are printed, each from 0 to 9
 abbrev pub DecimalsAreDigits : Type 0
 DecimalsAreDigits =
     (fraction : ℕ) → fraction < 65536 →
     All (λ digit. digit ≤ 9) (decimals fraction) × (0 < length (decimals fraction)) × (length (decimals fraction) ≤ 5)
 
+-- no fewer digits, but at least one, read back
 abbrev pub DecimalsAreFewest : Type 0
 DecimalsAreFewest =
     (fraction : ℕ) → fraction < 65536 → (digits : List ℕ) → 0 < length digits → All (λ digit. digit ≤ 9) digits →

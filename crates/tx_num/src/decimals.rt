@@ -58,7 +58,7 @@ fn push_decimals(text: &mut Vec<u8>, fraction: u32) -> Result<(), AllocError>
     Ok(())
 }
 
-/// Takes the digit in the middle of what reads back, where it is the last that may come.
+/// Rounds where the digit that comes is the last that may come; the others are cut.
 fn to_last_digit(s: u32, delta: u32) -> u32
     requires room { s ≤ 655355 }
     requires last { 65536 < delta → delta < s }
@@ -68,8 +68,8 @@ fn to_last_digit(s: u32, delta: u32) -> u32
     if delta > UNITY { s + 32768 - 50000 } else { s }
 }
 
-/// The 65536ths that are nearest to the decimals `digits`, each from 0 to 9
-/// (*TeX: The Program*, section 102).
+/// The 65536ths that are nearest to the decimals `digits`, a tie up. There are at most 17 of them, each
+/// from 0 to 9 (*TeX: The Program*, section 102).
 pub fn round_digits(digits: &[u8]) -> u32
     requires few { length digits.now ≤ 17 }
     requires digits { All (λ digit. digit ≤ 9) digits.now }

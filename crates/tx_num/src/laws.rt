@@ -1,6 +1,6 @@
 //! What is proved of the definitions. Each function here does nothing: its contract is the law.
 
-ghost use Rattle.tx_num.specs.Laws.{BadnessFalls, BadnessGrows, BadnessIsBounded, DecimalsAreDigits, DecimalsAreFewest, DecimalsReadBack, DigitsAreRounded, DimensionsReadBack, PartGrows, PartIsOdd};
+ghost use Rattle.tx_num.specs.Laws.{BadnessFalls, BadnessGrows, BadnessIsBounded, DecimalsAreDigits, DecimalsAreFewest, DecimalsReadBack, DigitsAreRounded, DimensionsReadBack, PartGrows, PartIsOdd, QuotientsAreNearest};
 
 /// The more is to be stretched, the worse.
 pub fn badness_grows()
@@ -15,6 +15,11 @@ pub fn badness_falls()
 /// Badness is at most 10000.
 pub fn badness_is_bounded()
     ensures { BadnessIsBounded }
+{}
+
+/// A quotient to the nearest whole number is the nearest, and the upper one of two.
+pub fn quotients_are_nearest()
+    ensures { QuotientsAreNearest }
 {}
 
 /// The part of the opposite sum is the opposite part.

@@ -6,7 +6,7 @@ ghost use Rattle.tx_num.specs.Ranges.{IsDimension, dimension};
 use std::marker::Model;
 
 /// A dimension in scaled points, of which 2^16 are a printer's point. It is below 2^30 in absolute
-/// value (*TeX: The Program*, section 101). A contract sees it as its whole number.
+/// value (*TeX: The Program*, sections 101 and 104). A contract sees it as its whole number.
 #[derive(Clone, Copy, Debug, PartialEq, Eq, PartialOrd, Ord, Hash)]
 pub struct Sp(pub i32);
 
@@ -38,11 +38,7 @@ impl Sp {
         ensures value { result ≡ dimension value }
         ensures cases { SomeIff result (IsDimension value) value }
     {
-        if value.unsigned_abs() < 1 << 30 {
-            Some(Sp(value))
-        } else {
-            None
-        }
+        Self::from_i64(i64::from(value))
     }
 
     /// The same of a wider number, such as a total of dimensions.

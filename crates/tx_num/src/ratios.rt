@@ -32,6 +32,7 @@ impl Model for Ratio {
 impl Ratio {
     /// The part of a sum of stretches or shrinks, in scaled points, that the ratio gives:
     /// `num * sum / den` to the nearest whole number, a tie away from zero, held within -10^9 and 10^9.
+    /// The sum and both numbers of the ratio are below 2^53 in absolute value.
     pub fn part(&self, sum: i64) -> i64
         requires sum { unsigned_abs sum < 2 ^ 53 }
         requires num { unsigned_abs self.now.num < 2 ^ 53 }

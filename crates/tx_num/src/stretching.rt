@@ -3,13 +3,14 @@
 ghost use Rattle.std.specs.Prelude.{◌≡◌, ◌<◌, ◌≤ℤ◌, pos};
 ghost use Rattle.tx_num.specs.Badness.{badness, stretch_ratio};
 
-/// The badness of what is worse than all else.
-const AWFUL: u16 = 10000;
+/// The badness that stands for all that is worse.
+const INFINITELY_BAD: u16 = 10000;
 
-/// The largest ratio whose badness is not yet awful.
+/// The largest ratio whose badness is below that.
 const LARGEST_RATIO: u64 = 1290;
 
-/// The badness of stretching or shrinking by `t` scaled points where `s` can be had, from 0 to 10000:
+/// The badness of stretching or shrinking by `t` scaled points, at least 0, where `s` can be had, from 0
+/// to 10000:
 /// about a hundred times the third power of `t/s` (*TeX: The Program*, section 108).
 pub fn badness(t: i64, s: i64) -> u16
     requires { pos 0 ≤ℤ t }
@@ -19,11 +20,11 @@ pub fn badness(t: i64, s: i64) -> u16
         return 0;
     }
     if s <= 0 {
-        return AWFUL;
+        return INFINITELY_BAD;
     }
     let r = stretch_ratio(t.unsigned_abs(), s.unsigned_abs());
     if r > LARGEST_RATIO {
-        AWFUL
+        INFINITELY_BAD
     } else {
         ((r * r * r + (1 << 17)) >> 18) as u16
     }
