@@ -1,5 +1,5 @@
 -- Dimensions and decimals (TeX: The Program, sections 102 and 103).
-use Rattle.std.specs.Prelude.{ℕ, zero, suc, ◌+◌, ◌-◌, ◌*◌, ◌/◌, ◌%◌, ◌^◌, nat_le, nat_lt, if◌then◌else◌, List, [], ◌∷◌, ◌++◌, map, ℤ, pos, negsuc, unsigned_abs}
+use Rattle.std.specs.Prelude.{ℕ, zero, suc, ◌+◌, ◌-◌, ◌*◌, ◌/◌, ◌%◌, ◌^◌, nat_le, nat_lt, if◌then◌else◌, List, [], ◌∷◌, ◌++◌, map, ℤ, pos, negsuc, unsigned_abs, codes}
 use Rattle.std.specs.Fmt.{decimal}
 
 -- 2^17 times the number whose decimals these are, cut to a whole number at each digit, the last one first
@@ -30,12 +30,16 @@ decimals_below (suc more) s delta =
 abbrev pub decimals : ℕ → List ℕ
 decimals fraction = decimals_below 5 (10 * fraction + 5) 10
 
+-- digits as bytes of a text, in which 48 is 0
+abbrev pub digit_bytes : List ℕ → List ℕ
+digit_bytes digits = map (λ digit. 48 + digit) digits
+
 -- a minus, or nothing
 abbrev pub minus_if_negative : ℤ → List ℕ
 minus_if_negative (pos n) = []
-minus_if_negative (negsuc n) = 45 ∷ []
+minus_if_negative (negsuc n) = codes "-"
 
 -- the text of so many scaled points, counted in points: the whole points, a point and the decimals
 abbrev pub shown_sp : ℤ → List ℕ
 shown_sp v =
-    minus_if_negative v ++ decimal (unsigned_abs v / 65536) ++ 46 ∷ map (λ digit. 48 + digit) (decimals (unsigned_abs v % 65536))
+    minus_if_negative v ++ decimal (unsigned_abs v / 65536) ++ codes "." ++ digit_bytes (decimals (unsigned_abs v % 65536))

@@ -17,6 +17,6 @@ pub record IsRatio (r : Fraction) : Type 0 where
 abbrev pub held_within : ℤ → ℤ → ℤ
 held_within limit z = int_max (neg_ℤ limit) (int_min z limit)
 
--- the ratio's part of a sum, to the nearest whole number, a tie away from zero
+-- the ratio's part of a sum, to the nearest whole number, a tie away from zero, held within 10^9
 abbrev pub part : Fraction → ℤ → ℤ
 part r sum = held_within (pos 1000000000) (rounded_quotient (r.num *ℤ sum) r.den)

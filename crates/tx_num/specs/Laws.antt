@@ -1,5 +1,5 @@
 -- What is proved of the definitions.
-use Rattle.std.specs.Prelude.{◌≡◌, ℕ, ◌+◌, ◌*◌, ◌^◌, ◌<◌, ◌≤◌, List, ◌∷◌, ◌++◌, length, map, All, ℤ, ◌≤ℤ◌, neg_ℤ, unsigned_abs}
+use Rattle.std.specs.Prelude.{◌≡◌, ℕ, ◌+◌, ◌*◌, ◌^◌, ◌<◌, ◌≤◌, List, ◌++◌, length, map, codes, All, ℤ, ◌≤ℤ◌, neg_ℤ, unsigned_abs}
 use Rattle.std.specs.Char.{digit_value}
 use Rattle.std.specs.Int.Digits.{number_from_digits}
 use Rattle.std.specs.Str.Parse.{IsNumeral, digits_value}
@@ -60,7 +60,7 @@ DigitsAreRounded =
 pub record ReadsBack (v : ℤ) : Type 0 where
   pub whole : List ℕ
   pub fraction : List ℕ
-  pub text : shown_sp v ≡ minus_if_negative v ++ whole ++ 46 ∷ fraction
+  pub text : shown_sp v ≡ minus_if_negative v ++ whole ++ codes "." ++ fraction
   pub whole_digits : IsNumeral 10 whole
   pub fraction_digits : IsNumeral 10 fraction
   pub value : 65536 * digits_value 10 whole + round_digits (map digit_value fraction) ≡ unsigned_abs v

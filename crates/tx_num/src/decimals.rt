@@ -1,7 +1,7 @@
 //! Dimensions as decimals, and decimals as fractions.
 
-ghost use Rattle.std.specs.Prelude.{◌≡◌, ◌++◌, ◌*◌, ◌+◌, ◌<◌, ◌≤◌, length, map, OnOk, OnErr, IfOk, All};
-ghost use Rattle.tx_num.specs.Decimals.{decimals, round_digits, shown_sp, to_last_digit};
+ghost use Rattle.std.specs.Prelude.{◌≡◌, ◌++◌, ◌*◌, ◌+◌, ◌<◌, ◌≤◌, length, OnOk, OnErr, IfOk, All};
+ghost use Rattle.tx_num.specs.Decimals.{decimals, digit_bytes, round_digits, shown_sp, to_last_digit};
 
 use crate::points::Sp;
 use std::alloc::{AllocError, Global};
@@ -42,7 +42,7 @@ fn shown_sp(alloc: Global, v: Sp) -> Result<Vec<u8>, AllocError>
 /// Appends the decimals of so many 65536ths.
 fn push_decimals(text: &mut Vec<u8>, fraction: u32) -> Result<(), AllocError>
     requires { fraction < 65536 }
-    ensures ok { OnOk result (text.new.items ≡ text.old.items ++ map (λ digit. 48 + digit) (decimals fraction)) }
+    ensures ok { OnOk result (text.new.items ≡ text.old.items ++ digit_bytes (decimals fraction)) }
 {
     let mut s = 10 * fraction + 5;
     let mut delta = 10;

@@ -32,8 +32,8 @@ pub enum Quant {
     Mu(GlueSpec),
 }
 
-/// A number as an integer of TeX. None comes exactly where it is none, which -2^31 is too
-/// (*TeX: The Program*, section 445).
+/// A number as an integer of TeX, which is below 2^31 in absolute value (*TeX: The Program*,
+/// section 445). None comes exactly where it is none, and so at -2^31.
 pub fn integer(value: i64) -> Option<i32>
     ensures value { result ≡ integer value }
     ensures cases { SomeIff result (IsInteger value) value }
