@@ -1,20 +1,23 @@
 //! The program over objects in memory.
 
 use crate::top::texd;
+use std::alloc::Global;
 use std::process::Abort;
+use std::sync::Wait;
 use std::test::Fail;
+use std::thread::Threads;
 use tx_bytes::{File, Files, MemPort, MemShelf, MemSink, MemSource, NoGate, Word};
 
 /// A run of the program with these words on this input, of which the calls of input and output with
 /// these numbers fail: the status, and what was written.
-fn play(
-    rt: &HostRuntime,
+fn play<R: Threads + Wait + Send + Sync>(
+    rt: &R,
+    alloc: Global,
     words: &[&str],
     input: &[u8],
     reads_failing: &[u64],
     writes_failing: &[u64],
 ) -> Result<(u8, Vec<u8>), Fail> {
-    let alloc = rt.alloc();
     let mut list = Vec::new(alloc);
     for word in words {
         list.push(Word::new(String::from_str(alloc, word)?))?;
@@ -42,8 +45,14 @@ fn play(
 }
 
 /// What `once` writes for one input, and its status, where no call fails.
-fn check(rt: &HostRuntime, input: &str, status: u8, output: &str) -> Result<(), Fail> {
-    let (code, written) = play(rt, &["once"], input.as_bytes(), &[], &[])?;
+fn check<R: Threads + Wait + Send + Sync + Abort>(
+    rt: &R,
+    alloc: Global,
+    input: &str,
+    status: u8,
+    output: &str,
+) -> Result<(), Fail> {
+    let (code, written) = play(rt, alloc, &["once"], input.as_bytes(), &[], &[])?;
     assert_eq!(rt; code, status, "{input}");
     assert_eq!(rt; written.as_slice(), output.as_bytes(), "{input}");
     Ok(())
@@ -51,18 +60,26 @@ fn check(rt: &HostRuntime, input: &str, status: u8, output: &str) -> Result<(), 
 
 #[test]
 fn regions(rt: HostRuntime) -> Result<(), Fail> {
-    check(&rt, "REGION 100 0\n", 0, "DONE 0 0 0 0\n")?;
-    check(&rt, "REGION 1 6\n\\relax", 0, "DONE 1 0 0 0\n")?;
-    check(&rt, "REGION 1 12\n\\relax\\relax", 0, "SPENT 1 0 0 0\n")?;
+    check(&rt, rt.alloc(), "REGION 100 0\n", 0, "DONE 0 0 0 0\n")?;
+    check(&rt, rt.alloc(), "REGION 1 6\n\\relax", 0, "DONE 1 0 0 0\n")?;
     check(
         &rt,
+        rt.alloc(),
+        "REGION 1 12\n\\relax\\relax",
+        0,
+        "SPENT 1 0 0 0\n",
+    )?;
+    check(
+        &rt,
+        rt.alloc(),
         "REGION 1000 1\nx",
         0,
         "FAIL 1 0 0 37\n! This command is not built yet.\nl.1\n",
     )?;
     check(
         &rt,
-        "REGION 1000 13\n\\par  \n\n \\zz\nx",
+        rt.alloc(),
+        "REGION 1000 14\n\\par  \n\n \\zz\nx",
         0,
         "FAIL 3 0 0 34\n! Undefined control sequence.\nl.3\n",
     )
@@ -83,7 +100,7 @@ fn inputs_that_are_no_frame(rt: HostRuntime) -> Result<(), Fail> {
         "BYE\n",
         "x",
     ] {
-        check(&rt, input, 7, "")?;
+        check(&rt, rt.alloc(), input, 7, "")?;
     }
     Ok(())
 }
@@ -96,7 +113,7 @@ fn words_that_are_refused(rt: HostRuntime) -> Result<(), Fail> {
         ["twice"].as_slice(),
         ["once", "a.tex"].as_slice(),
     ] {
-        let (code, written) = play(&rt, words, frame, &[], &[])?;
+        let (code, written) = play(&rt, rt.alloc(), words, frame, &[], &[])?;
         assert_eq!(rt; code, 2);
         assert_eq!(rt; written.len(), 0);
     }
@@ -106,10 +123,10 @@ fn words_that_are_refused(rt: HostRuntime) -> Result<(), Fail> {
 #[test]
 fn calls_that_fail(rt: HostRuntime) -> Result<(), Fail> {
     let frame = b"REGION 1 0\n".as_slice();
-    let (code, written) = play(&rt, &["once"], frame, &[1], &[])?;
+    let (code, written) = play(&rt, rt.alloc(), &["once"], frame, &[1], &[])?;
     assert_eq!(rt; code, 5);
     assert_eq!(rt; written.len(), 0);
-    let (code, written) = play(&rt, &["once"], frame, &[], &[0])?;
+    let (code, written) = play(&rt, rt.alloc(), &["once"], frame, &[], &[0])?;
     assert_eq!(rt; code, 6);
     assert_eq!(rt; written.as_slice(), b"DONE 0".as_slice());
     Ok(())
