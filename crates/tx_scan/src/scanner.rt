@@ -132,3 +132,54 @@ impl Scanner {
         self.number.max(1)
     }
 }
+
+#[cfg(test)]
+mod tests {
+    use super::*;
+    use std::test::Fail;
+    use tx_model::Cat;
+
+    /// The scanner's next answer, as it prints.
+    fn shown(alloc: Global, scanner: &mut Scanner) -> Result<String, Fail> {
+        let found = scanner.next(&Cats::bare(), 13);
+        Ok(format!(in alloc; "{found:?}")?)
+    }
+
+    #[test]
+    fn tokens_of_lines(rt: HostRuntime) -> Result<(), Fail> {
+        let alloc = rt.alloc();
+        let text = Bytes::from_slice(alloc, b"\\ab  x  \n\n\\ \\\nz\ny")?;
+        let mut scanner = Scanner::new(alloc, text);
+        assert_eq!(rt; scanner.line(), 1);
+        for want in [
+            "NameText(Bytes([97, 98]))",
+            "Char(Letter, 120)",
+            "Char(Space, 32)",
+            "Par",
+            "NameText(Bytes([32]))",
+            "NameText(Bytes([13]))",
+            "Char(Letter, 122)",
+        ] {
+            let got = shown(alloc, &mut scanner)?;
+            assert_eq!(rt; got.as_str(), want);
+        }
+        assert_eq!(rt; scanner.line(), 4);
+        scanner.end_input();
+        assert_eq!(rt; shown(alloc, &mut scanner)?.as_str(), "Char(Space, 32)");
+        assert_eq!(rt; shown(alloc, &mut scanner)?.as_str(), "End");
+        Ok(())
+    }
+
+    #[test]
+    fn categories(rt: HostRuntime) {
+        let cats = Cats::bare();
+        for (byte, cat) in [
+            (b'a', Cat::Letter),
+            (b'~', Cat::Other),
+            (255, Cat::Other),
+            (b'%', Cat::Comment),
+        ] {
+            assert_eq!(rt; cats.of(byte), cat);
+        }
+    }
+}

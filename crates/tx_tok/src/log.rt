@@ -92,5 +92,26 @@ fn hex_digit(value: u8) -> u8
     requires { value < 16 }
     ensures { result ≡ hex_digit_of value }
 {
-    if value < 10 { b'0' + value } else { b'a' + (value - 10) }
+    if value < 10 {
+        b'0' + value
+    } else {
+        b'a' + (value - 10)
+    }
+}
+
+#[cfg(test)]
+mod tests {
+    use super::*;
+    use std::test::Fail;
+
+    #[test]
+    fn lines(rt: HostRuntime) -> Result<(), Fail> {
+        let mut log = Log::new(rt.alloc());
+        log.line(b"A\n ~\x7f\x80\xfe\x00", -1)?;
+        log.line(b"a/b", i32::from(b'/'))?;
+        let lines = b"A^^J ~^^?^^80^^fe^^@\na\nb\n".as_slice();
+        assert_eq!(rt; log.as_slice(), lines);
+        assert_eq!(rt; log.into_vec().as_slice(), lines);
+        Ok(())
+    }
 }

@@ -5,7 +5,7 @@ use Rattle.tx_model.specs.Pending.{next}
 use Rattle.tx_model.specs.Moves.{move_in}
 use Rattle.tx_model.specs.Reads.{reads}
 use Rattle.tx_model.specs.Region.{outcome_in}
-use Rattle.tx_rows.proofs.one_step.Goals as goal
+use Rattle.tx_rows.proofs.regions_that_are_spent.Goals as goal
 
 pub returns : goal.returns
 unfolding scanned next move_in reads outcome_in digits
