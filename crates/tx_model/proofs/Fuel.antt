@@ -1,6 +1,6 @@
 -- More moves change nothing, so a reading ends in one way at the most.
-use Rattle.std.proofs.Common.{◌≡◌, ℕ, zero, suc, ◌+◌, List, [], ◌∷◌, ◌++◌, Option, None, Some, refl, sym, ◌∙◌, ap, arith, zero-add, add_comm, subst}
-use Rattle.tx_model.specs.World.{World, Output, Failure, Taking, Takes, Finds-none, Spends, Breaks, taking}
+use Rattle.std.proofs.Common.{◌≡◌, ℕ, zero, suc, ◌+◌, List, [], ◌∷◌, ◌++◌, Option, None, Some, refl, arith, zero-add, add_comm}
+use Rattle.tx_model.specs.World.{World, Taking, Takes, Finds-none, Spends, Breaks, taking}
 use Rattle.tx_model.specs.Moves.{Kind, Value, Item, Tok, End, Given, Move, Take, Sub, Again, Done, Bad, move_in}
 use Rattle.tx_model.specs.Reads.{Result, Gave, Failed, Spent, passing, taken, follow, reads, Reads}
 

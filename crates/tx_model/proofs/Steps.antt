@@ -1,9 +1,9 @@
 -- One lemma a kind of move: from how a reading ends after the move, how it ends before.
-use Rattle.std.proofs.Common.{◌≡◌, ℕ, zero, suc, ◌+◌, List, [], ◌∷◌, ◌++◌, Option, None, Some, refl, sym, ◌∙◌, ap, add_comm}
-use Rattle.tx_model.specs.World.{World, Output, Failure, failure, Command, Taking, Takes, Finds-none, Spends, Breaks, taking}
+use Rattle.std.proofs.Common.{◌≡◌, ℕ, zero, suc, ◌+◌, List, [], ◌∷◌, ◌++◌, Some, refl, add_comm}
+use Rattle.tx_model.specs.World.{World, Output, Failure, failure, Command, Takes, Finds-none, Spends, Breaks, taking}
 use Rattle.tx_model.specs.declared.error.Error.{Error}
 use Rattle.tx_model.specs.Moves.{Kind, Value, Item, Tok, End, Given, Move, Take, Sub, Again, Done, Bad, move_in}
-use Rattle.tx_model.specs.Reads.{Result, Gave, Failed, Spent, passing, taken, follow, reads, Reads}
+use Rattle.tx_model.specs.Reads.{Result, Gave, Failed, Spent, follow, reads, Reads}
 use Rattle.tx_model.proofs.Fuel.{reads-more}
 
 -- what follows its move is how the reading ends

@@ -1,12 +1,12 @@
 -- The state BARE, in which a region begins where there is no preamble.
-use Rattle.std.specs.Prelude.{ℕ, pos, negsuc, ◌==◌, ◌||◌, List, [], ◌∷◌, if◌then◌else◌}
+use Rattle.std.specs.Prelude.{ℕ, pos, negsuc, ◌==◌, ◌||◌, List, if◌then◌else◌}
 use Rattle.std.specs.Str.{bytes_eq}
 use Rattle.std.specs.Char.{is_ascii_alphabetic}
 use lib.Chars.{codes}
 use Rattle.tx_model.specs.declared.category.Cat.{Cat}
 use Rattle.tx_model.specs.declared.category.Cat.TheVariants as cat
 use Rattle.tx_model.specs.declared.primitive.Primitive.TheVariants as primitive
-use Rattle.tx_model.specs.Environment.{Map, Environment, Meaning, Undefined, Primitive', Category, Integer, Parameter, EndLineChar, NewLineChar, EscapeChar, OfName, OfActive, OfCategory, OfParameter}
+use Rattle.tx_model.specs.Environment.{Map, Meaning, Undefined, Primitive', Category, Integer, Parameter, EndLineChar, NewLineChar, EscapeChar, OfName, OfActive, OfCategory, OfParameter}
 
 -- the category of a byte
 abbrev pub bare_category : ℕ → Cat

@@ -1,9 +1,8 @@
 -- Meanings, and the maps that give them. The TeXbook, chapters 20 and 24.
-use Rattle.std.specs.Prelude.{ℕ, ℤ, pos, Bool, List, [], ◌∷◌}
+use Rattle.std.specs.Prelude.{ℕ, ℤ, pos, List, [], ◌∷◌}
 use Rattle.tx_model.specs.declared.category.Cat.{Cat}
 use Rattle.tx_model.specs.declared.category.Cat.TheVariants as cat
 use Rattle.tx_model.specs.declared.primitive.Primitive.{Primitive}
-use Rattle.tx_model.specs.declared.primitive.Primitive.TheVariants as primitive
 use Rattle.tx_model.specs.Tokens.{Token, Char, Name, Active, Param, Stop}
 
 -- an integer parameter
@@ -28,8 +27,6 @@ pub data Meaning : Type 0 where
   Category : Cat → Meaning
   -- the value of a parameter
   Integer : ℤ → Meaning
-
-
 
 abbrev pub Map : Type 0
 Map = Address → Meaning

@@ -1,5 +1,5 @@
 -- The lines of a text, and what of a line the scanner reads. The TeXbook, chapter 8.
-use Rattle.std.specs.Prelude.{ℕ, ℤ, pos, negsuc, ◌==◌, ◌+◌, ◌-◌, ◌^◌, min, Bool, List, [], ◌∷◌, ◌++◌, nat_lt, if◌then◌else◌}
+use Rattle.std.specs.Prelude.{ℕ, ℤ, pos, negsuc, ◌==◌, ◌+◌, ◌-◌, ◌^◌, min, List, [], ◌∷◌, ◌++◌, nat_lt, if◌then◌else◌}
 use Rattle.tx_model.specs.Bytes.{newline, blank}
 
 -- a byte before the first of these lines

@@ -1,6 +1,6 @@
 -- What each reading does next, given the items that it was given so far. *TeX: The Program*, parts 25
 -- and 46.
-use Rattle.std.specs.Prelude.{List, [], ◌∷◌}
+use Rattle.std.specs.Prelude.{List, ◌∷◌}
 use Rattle.tx_model.specs.declared.category.Cat.TheVariants as cat
 use Rattle.tx_model.specs.declared.primitive.Primitive.TheVariants as primitive
 use Rattle.tx_model.specs.declared.error.Error.{Error}

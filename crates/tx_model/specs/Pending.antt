@@ -31,6 +31,7 @@ next cats end (Text rest ∷ members) = in_text (scanned cats end rest) (next ca
     after : Rest → List Member → Next → Next
     after used [] later = Empty (Text used ∷ [])
     after used (member ∷ more) later = later
+
     in_text : Scanned → Next → Next
     in_text (Gives token left) later = First token false (Text left ∷ members)
     in_text (Halts left) later = Blocked (Text left ∷ members)

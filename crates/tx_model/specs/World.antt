@@ -1,5 +1,5 @@
 -- All that a run works on.
-use Rattle.std.specs.Prelude.{ℕ, ℤ, ◌+◌, Bool, List, [], ◌∷◌, ◌==◌, if◌then◌else◌}
+use Rattle.std.specs.Prelude.{ℕ, ℤ, ◌+◌, Bool, List, ◌==◌, if◌then◌else◌}
 use Rattle.tx_model.specs.declared.error.Error.{Error}
 use Rattle.tx_model.specs.declared.error.Error.TheVariants.{NotBuilt}
 use Rattle.tx_model.specs.Tokens.{Token}

@@ -10,11 +10,9 @@ ghost use Rattle.tx_model.specs.Region.{Outcome, Region};
 /// A reading ends in one way at the most.
 pub fn one_end()
     ensures { (k : Kind) (items : List Item) (w : World) (r s : Result) → Reads k items w r → Reads k items w s → r ≡ s }
-{
-}
+{}
 
 /// A region has one outcome at the most.
 pub fn one_outcome()
     ensures { (map : Map) (text : List ℕ) (budget : ℕ) (o p : Outcome) → Region map text budget o → Region map text budget p → o ≡ p }
-{
-}
+{}

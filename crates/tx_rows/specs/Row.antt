@@ -1,5 +1,5 @@
 -- What the definitions compute for a text and a budget, as the bytes of the reply.
-use Rattle.std.specs.Prelude.{ℕ, List, ◌≡◌, Option, Some}
+use Rattle.std.specs.Prelude.{ℕ, List, ◌≡◌, Some}
 use Rattle.std.specs.Option.{option_map}
 use Rattle.tx_model.specs.Bare.{bare_map}
 use Rattle.tx_model.specs.Region.{outcome_in}
