@@ -11,7 +11,7 @@ mod values;
 
 pub use memory::{LinkPlan, MemLink, MemPort, MemShelf, MemSink, MemSource};
 pub use outside::{Bound, Gate, Knock, Link, Look, Port, Put, Shelf, Sink, Source, Told, Took};
-pub use real::{NoGate, StdSink, StdSource};
+pub use real::{NoGate, StdShelf, StdSink, StdSource};
 pub use values::{Bytes, File, Files, Word};
 
 #[cfg(test)]

@@ -6,7 +6,10 @@ ghost use Rattle.std.specs.Io.KnownBytes.{Appends};
 ghost use Rattle.tx_bytes.specs.Calls.{AfterRead, AfterWrite};
 ghost use Rattle.tx_bytes.specs.Real.{real_tells_of, AppendsSome, RealReads, RealWrites};
 
+mod shelf;
+
 use crate::{Gate, Put, Sink, Source, Told, Took};
+pub use shelf::StdShelf;
 use std::io::{Read, Write};
 use std::marker::Model;
 

@@ -4,7 +4,8 @@ ghost use Rattle.std.specs.Prelude.{◌≡◌, ◌<◌, length, true};
 
 use crate::{
     Bound, Bytes, File, Files, Gate, Knock, Link, LinkPlan, Look, MemLink, MemPort, MemShelf,
-    MemSink, MemSource, NoGate, Port, Put, Shelf, Sink, Source, StdSink, StdSource, Took, Word,
+    MemSink, MemSource, NoGate, Port, Put, Shelf, Sink, Source, StdShelf, StdSink, StdSource, Took,
+    Word,
 };
 use std::alloc::Global;
 use std::fs;
@@ -210,6 +211,27 @@ fn a_source_and_a_sink_over_files(rt: HostRuntime) -> Result<(), Fail> {
     let mut sink = StdSink::new(fs::open(&rt, name)?);
     assert_eq!(rt; write(&mut sink, "g"), Put::Failed);
     assert_eq!(rt; sink.faults(), 1);
+    fs::remove_file(&rt, name)?;
+    Ok(())
+}
+
+#[test]
+fn a_shelf_over_files(rt: HostRuntime) -> Result<(), Fail> {
+    let name = "tx_bytes_shelf.txt";
+    let mut shelf = StdShelf::new(&rt);
+    let mut out = vec![in rt.alloc(); 9]?;
+    assert_eq!(rt; look(&mut shelf, name, &mut out), Look::Absent);
+    fs::write(&rt, name, "ab")?;
+    assert_eq!(rt; look(&mut shelf, name, &mut out), Look::Found);
+    assert_eq!(rt; out.as_slice(), b"ab".as_slice());
+    fs::write(&rt, name, "abc")?;
+    assert_eq!(rt; look(&mut shelf, name, &mut out), Look::Long);
+    assert!(rt; out.is_empty());
+    assert_eq!(rt; shelf.faults(), 0);
+
+    // A folder can be opened, and not read.
+    assert_eq!(rt; look(&mut shelf, ".", &mut out), Look::Failed);
+    assert_eq!(rt; shelf.faults(), 1);
     fs::remove_file(&rt, name)?;
     Ok(())
 }
