@@ -18,10 +18,6 @@ pub data Next : Type 0 where
   -- a byte that the language does not have yet stands first
   Blocked : List Member → Next
 
-abbrev pub keep_last : Rest → List Member → List Member
-keep_last rest [] = Text rest ∷ []
-keep_last rest (member ∷ members) = member ∷ members
-
 -- A text in which no token is left is dropped; the last one stays, for the number of its line.
 unfoldable pub next : (ℕ → Cat) → ℤ → List Member → Next
 next cats end [] = Empty []
