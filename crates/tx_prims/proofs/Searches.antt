@@ -1,8 +1,9 @@
 -- Rows whose texts rise: what a search over them finds.
 use Rattle.std.proofs.Common.{◌≡◌, ◌≢◌, ℕ, suc, zero, ◌+◌, ◌<◌, Bool, true, false, ◌&&◌, ◌==◌, List, [], ◌∷◌, length, get_or, Some, None, refl, sym, ap, ◌∙◌, subst, ⊎_elim, arith, add-one, Ordering}
-use Rattle.std.specs.Prelude.{IsTrue}
+use Rattle.std.specs.Prelude.{IsTrue, if◌then◌else◌, option_and_then}
 use Rattle.std.specs.List.{IsAllAdjacentAnswer, HoldsAt, list_all}
 use Rattle.std.specs.List.Sorted.{IsSortedBy, IsNonDecreasingBy, IsPartitionPoint}
+use Rattle.std.specs.Option.{option_map}
 use Rattle.std.specs.Ordering.{is_lt, nat_cmp, ordering_index, ordering_reverse}
 use Rattle.std.specs.declared.cmp.Ordering.TheVariants.{Less, Equal, Greater}
 use Rattle.std.specs.Cmp.Lexicographic.{slice_cmp}
@@ -15,7 +16,7 @@ use Rattle.std.proofs.lemmas.Slice.Eq.{bytes_eq-Decides}
 use Rattle.std.proofs.lemmas.List.Sorted.{searchable_from_sorted}
 use Rattle.tx_prims.specs.declared.TableRow.{TableRow}
 use Rattle.tx_prims.specs.Keys.{text_of, is_text}
-use Rattle.tx_prims.specs.Rows.{is_before, are_rising, is_lawful, row_of, EachKeyHasItsRow}
+use Rattle.tx_prims.specs.Rows.{is_before, are_rising, is_lawful, row_of, row_at, place_of, EachKeyHasItsRow}
 
 -- two texts tie only where they are equal
 pub same_from_tie : (x y : List ℕ) → slice_cmp nat_cmp x y ≡ Equal → x ≡ y
@@ -120,29 +121,38 @@ module _ {R : Type 0} where
   pub rising-searchable : (rows : List (TableRow R)) (key : List ℕ) → are_rising rows ≡ true → IsNonDecreasingBy (λ row. ordering_index (slice_cmp nat_cmp (text_of row.key) key)) rows
   rising-searchable rows key h = searchable_from_sorted nat_list_cmp_total (λ row. text_of row.key) rows key (rising_sorted rows h)
 
-  -- the row at a place is the row of its key
-  pub row_of-at : (rows : List (TableRow R)) (k : ℕ) (d : TableRow R) (key : List ℕ) → are_rising rows ≡ true → k < length rows → text_of (get_or rows k d).key ≡ key → row_of key rows ≡ Some (get_or rows k d).row
-  row_of-at [] k d key h lt same = absurd (omega arith)
-  row_of-at (row ∷ rows) zero d key h lt same = rw ((bytes_eq-Decides _ _).1 same) refl
-  row_of-at (row ∷ rows) (suc k) d key h lt same =
+  -- the place of a row is the place of its key
+  place_of-at : (rows : List (TableRow R)) (k : ℕ) (key : List ℕ) → are_rising rows ≡ true → k < length rows → ((d : TableRow R) → text_of (get_or rows k d).key ≡ key) → place_of key rows ≡ Some k
+  place_of-at [] k key h lt same = absurd (omega arith)
+  place_of-at (row ∷ rows) zero key h lt same = rw ((bytes_eq-Decides (text_of row.key) key).1 (same row)) refl
+  place_of-at (row ∷ rows) (suc k) key h lt same =
       let other : bytes_eq (text_of row.key) key ≡ false =
-      subst (λ z. bytes_eq (text_of row.key) z ≡ false) same (bytes_eq-before (text_of row.key) (text_of (get_or rows k d).key) (first_before row rows k d h (omega arith)))
-      in rw other (row_of-at rows k d key (rising_tail row rows h) (omega arith) same)
+      subst (λ z. bytes_eq (text_of row.key) z ≡ false) (same row) (bytes_eq-before (text_of row.key) (text_of (get_or rows k row).key) (first_before row rows k row h (omega arith)))
+      in rw other (ap (option_map suc) (place_of-at rows k key (rising_tail row rows h) (omega arith) same))
 
   -- a key that no row has
-  pub row_of-absent : (rows : List (TableRow R)) (key : List ℕ) → ((k : ℕ) (d : TableRow R) → k < length rows → text_of (get_or rows k d).key ≢ key) → row_of key rows ≡ None
-  row_of-absent [] key h = refl
-  row_of-absent (row ∷ rows) key h =
+  pub place_of-absent : (rows : List (TableRow R)) (key : List ℕ) → ((k : ℕ) (d : TableRow R) → k < length rows → text_of (get_or rows k d).key ≢ key) → place_of key rows ≡ None
+  place_of-absent [] key h = refl
+  place_of-absent (row ∷ rows) key h =
       let other : bytes_eq (text_of row.key) key ≡ false = false_from_not (bytes_eq (text_of row.key) key) (λ e. h 0 row (omega arith) ((bytes_eq-Decides (text_of row.key) key).0 e)) in
-      rw other (row_of-absent rows key (λ k d lt. h (suc k) d (omega arith)))
+      rw other (ap (option_map suc) (place_of-absent rows key (λ k d lt. h (suc k) d (omega arith))))
+
+  -- the row of a key is the row at its place
+  pub row_of-place_of : (rows : List (TableRow R)) (key : List ℕ) → row_of key rows ≡ option_and_then (λ k. row_at k rows) (place_of key rows)
+  row_of-place_of [] key = refl
+  row_of-place_of (row ∷ rows) key =
+      elim (bytes_eq (text_of row.key) key) as (λ b. (if b then Some row.row else row_of key rows) ≡ option_and_then (λ k. row_at k (row ∷ rows)) (if b then Some 0 else option_map suc (place_of key rows))) [
+        | true ↦ refl
+        | false ↦ row_of-place_of rows key ∙ (elim (place_of key rows) as (λ o. option_and_then (λ k. row_at k rows) o ≡ option_and_then (λ k. row_at k (row ∷ rows)) (option_map suc o)) [ None ↦ refl | Some k ↦ refl ])
+      ]
 
   -- what a binary search for a key says
-  pub row_of-found : (rows : List (TableRow R)) (k : ℕ) (d : TableRow R) (key : List ℕ) → are_rising rows ≡ true → k < length rows → HoldsAt (λ row. slice_cmp nat_cmp (text_of row.key) key ≡ Equal) rows k → row_of key rows ≡ Some (get_or rows k d).row
-  row_of-found rows k d key h lt tie = row_of-at rows k d key h lt (same_from_tie (text_of (get_or rows k d).key) key (tie d))
+  pub place_of-found : (rows : List (TableRow R)) (k : ℕ) (key : List ℕ) → are_rising rows ≡ true → k < length rows → HoldsAt (λ row. slice_cmp nat_cmp (text_of row.key) key ≡ Equal) rows k → place_of key rows ≡ Some k
+  place_of-found rows k key h lt tie = place_of-at rows k key h lt (λ d. same_from_tie (text_of (get_or rows k d).key) key (tie d))
 
-  pub row_of-not_found : (rows : List (TableRow R)) (k : ℕ) (key : List ℕ) → are_rising rows ≡ true → (IsNonDecreasingBy (λ row. ordering_index (slice_cmp nat_cmp (text_of row.key) key)) rows → IsPartitionPoint (λ row. slice_cmp nat_cmp (text_of row.key) key ≡ Less) (λ row. slice_cmp nat_cmp (text_of row.key) key ≡ Greater) rows k) → row_of key rows ≡ None
-  row_of-not_found rows k key h parts =
-      row_of-absent rows key (λ i d lt same.
+  pub place_of-not_found : (rows : List (TableRow R)) (k : ℕ) (key : List ℕ) → are_rising rows ≡ true → (IsNonDecreasingBy (λ row. ordering_index (slice_cmp nat_cmp (text_of row.key) key)) rows → IsPartitionPoint (λ row. slice_cmp nat_cmp (text_of row.key) key ≡ Less) (λ row. slice_cmp nat_cmp (text_of row.key) key ≡ Greater) rows k) → place_of key rows ≡ None
+  place_of-not_found rows k key h parts =
+      place_of-absent rows key (λ i d lt same.
       let tie : slice_cmp nat_cmp (text_of (get_or rows i d).key) key ≡ Equal = subst (λ z. slice_cmp nat_cmp z key ≡ Equal) (sym same) (tied_itself nat_list_cmp_total key) in
       let split = parts (rising-searchable rows key h) in
       ⊎_elim (λ below. let is : slice_cmp nat_cmp (text_of (get_or rows i d).key) key ≡ Less = split.0 i d (omega arith) below in cc)
@@ -153,19 +163,20 @@ module _ {R : Type 0} where
   rising_of_lawful n rows h = and_right (length rows == n && list_all (λ row. is_text row.key) rows) (are_rising rows) h
 
   -- two rows of one text are one row
-  row_of-one : (rows : List (TableRow R)) (j k : ℕ) (d : TableRow R) → are_rising rows ≡ true → j < length rows → k < length rows → text_of (get_or rows j d).key ≡ text_of (get_or rows k d).key → j ≡ k
-  row_of-one [] j k d h low high same = absurd (omega arith)
-  row_of-one (row ∷ rows) zero zero d h low high same = refl
-  row_of-one (row ∷ rows) zero (suc k) d h low high same =
+  place-one : (rows : List (TableRow R)) (j k : ℕ) (d : TableRow R) → are_rising rows ≡ true → j < length rows → k < length rows → text_of (get_or rows j d).key ≡ text_of (get_or rows k d).key → j ≡ k
+  place-one [] j k d h low high same = absurd (omega arith)
+  place-one (row ∷ rows) zero zero d h low high same = refl
+  place-one (row ∷ rows) zero (suc k) d h low high same =
       absurd (false≢true (sym (is_before-itself (text_of row.key)) ∙ subst (λ z. is_before (text_of row.key) z ≡ true) (sym same) (first_before row rows k d h (omega arith))))
-  row_of-one (row ∷ rows) (suc j) zero d h low high same =
+  place-one (row ∷ rows) (suc j) zero d h low high same =
       absurd (false≢true (sym (is_before-itself (text_of row.key)) ∙ subst (λ z. is_before (text_of row.key) z ≡ true) same (first_before row rows j d h (omega arith))))
-  row_of-one (row ∷ rows) (suc j) (suc k) d h low high same = ap suc (row_of-one rows j k d (rising_tail row rows h) (omega arith) (omega arith) same)
+  place-one (row ∷ rows) (suc j) (suc k) d h low high same = ap suc (place-one rows j k d (rising_tail row rows h) (omega arith) (omega arith) same)
 
   -- a lawful table has exactly one row for each of its keys
   pub EachKeyHasItsRow-lawful : (n : ℕ) (rows : List (TableRow R)) → IsTrue (is_lawful n rows) → EachKeyHasItsRow rows
   EachKeyHasItsRow-lawful n rows h = record {
-    present = λ k d lt. row_of-at rows k d (text_of (get_or rows k d).key) (rising_of_lawful n rows h) lt refl;
-    once = λ j k d low high same. row_of-one rows j k d (rising_of_lawful n rows h) low high same;
-    absent = λ key none. row_of-absent rows key none;
+    present = λ key k lt same. place_of-at rows k key (rising_of_lawful n rows h) lt same;
+    once = λ j k d low high same. place-one rows j k d (rising_of_lawful n rows h) low high same;
+    absent = λ key none. place_of-absent rows key none;
+    row = row_of-place_of rows;
   }

@@ -1,15 +1,17 @@
 //! Tables whose keys are short texts that rise in the order of bytes.
 #![tactic(auto)]
 
-ghost use Rattle.std.specs.Prelude.{◌≡◌, ◌==◌, ℕ, ◌<◌, ◌≤◌, List, length, slice_index_or, IsTrue, Some, None};
+ghost use Rattle.std.specs.Prelude.{◌≡◌, ◌==◌, ℕ, ◌<◌, ◌≤◌, List, length, slice_index_or, IsTrue, Some, None, IfSome};
 ghost use Rattle.std.specs.Option.{option_copied};
 ghost use Rattle.std.specs.List.{list_all};
 ghost use Rattle.std.specs.Ordering.{nat_cmp};
 ghost use Rattle.std.specs.Cmp.Lexicographic.{slice_cmp};
 ghost use Rattle.tx_prims.specs.Keys.{text_of, is_text};
-ghost use Rattle.tx_prims.specs.Rows.{is_lawful, are_rising, is_before, row_of, EachKeyHasItsRow};
+ghost use Rattle.tx_prims.specs.Rows.{is_lawful, are_rising, is_before, row_of, row_at, place_of, EachKeyHasItsRow};
 
 use std::cmp::Ordering;
+
+pub mod primitives;
 
 /// A text of at most 24 bytes: the first `len` of `bytes`, with 0 in the others.
 #[derive(Clone, Copy, Debug)]
@@ -104,9 +106,31 @@ impl<'t, const N: usize, R> Table<'t, N, R> {
     pub fn find(&self, key: &[u8]) -> Option<&R>
         ensures { option_copied result ≡ row_of key.now self.now.rows.now }
     {
+        match self.place(key) {
+            Some(place) => self.at(place),
+            None => None,
+        }
+    }
+
+    /// The place of this key's row, counted from 0, or None exactly where the key is absent.
+    pub fn place(&self, key: &[u8]) -> Option<usize>
+        ensures place { result ≡ place_of key.now self.now.rows.now }
+        ensures within { IfSome result (λ place. place < length self.now.rows.now) }
+    {
         match self.rows.binary_search_by(|row| row.key.compare(key)) {
-            Ok(place) => Some(&self.rows[place].row),
+            Ok(place) => Some(place),
             Err(_) => None,
+        }
+    }
+
+    /// The row at this place, counted from 0, or None past the last one.
+    pub fn at(&self, place: usize) -> Option<&R>
+        ensures { option_copied result ≡ row_at place self.now.rows.now }
+    {
+        if place < self.rows.len() {
+            Some(&self.rows[place].row)
+        } else {
+            None
         }
     }
 }

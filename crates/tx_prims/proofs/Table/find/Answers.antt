@@ -1,17 +1,14 @@
-use Rattle.std.proofs.Common.{rules, sym}
-use Rattle.std.proofs.lemmas.Fn.{always_returns_same}
-use Rattle.std.specs.Ordering.{nat_cmp}
-use Rattle.std.specs.Cmp.Lexicographic.{slice_cmp}
-use Rattle.tx_prims.specs.Keys.{text_of}
-use Rattle.tx_prims.proofs.Searches.{row_of-found, row_of-not_found, rising_of_lawful}
+use Rattle.std.proofs.Common.{sym, ap, ◌∙◌}
+use Rattle.std.specs.Prelude.{option_and_then}
+use Rattle.tx_prims.specs.Rows.{row_at}
+use Rattle.tx_prims.proofs.Searches.{row_of-place_of}
 use Rattle.tx_prims.proofs.Table.find.Goals as goal
 
-pub returns-in-Ok : goal.returns-in-Ok
-returns-in-Ok g c =
-    sym (row_of-found c.args.self.now.rows.now c.in-Ok.place _ c.args.key.now (search (rules, rising_of_lawful)) c.in-Ok.ensures.bound
-    (c.in-Ok.ensures.position (λ row. slice_cmp nat_cmp (text_of row.key) c.args.key.now) (always_returns_same _ _ _ (λ a r g h. search rules))))
+pub returns-in-Some : goal.returns-in-Some
+returns-in-Some g c =
+    c.at.ensures
+    ∙ sym (row_of-place_of c.args.self.now.rows.now c.args.key.now ∙ ap (option_and_then (λ k. row_at k c.args.self.now.rows.now)) (sym c.in-Some.ensures.place))
 
-pub returns-in-Err : goal.returns-in-Err
-returns-in-Err g c =
-    sym (row_of-not_found c.args.self.now.rows.now c.in-Err.field-0 c.args.key.now (search (rules, rising_of_lawful))
-    (c.in-Err.ensures.position (λ row. slice_cmp nat_cmp (text_of row.key) c.args.key.now) (always_returns_same _ _ _ (λ a r g h. search rules))))
+pub returns-in-None : goal.returns-in-None
+returns-in-None g c =
+    sym (row_of-place_of c.args.self.now.rows.now c.args.key.now ∙ ap (option_and_then (λ k. row_at k c.args.self.now.rows.now)) (sym c.in-None.ensures.place))
