@@ -11,7 +11,10 @@ ghost use Rattle.tx_prims.specs.Rows.{is_lawful, are_rising, is_before, row_of, 
 
 use std::cmp::Ordering;
 
+pub mod errors;
 pub mod primitives;
+#[cfg(test)]
+mod tests;
 
 /// A text of at most 24 bytes: the first `len` of `bytes`, with 0 in the others.
 #[derive(Clone, Copy, Debug)]
