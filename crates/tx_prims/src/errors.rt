@@ -1,4 +1,5 @@
-//! The texts of errors, by number and case.
+//! The texts of errors, by number and case. Where *TeX: The Program* has the same error, it is in its
+//! words. Names of primitives in the texts are printed with a backslash.
 ghost use Rattle.std.specs.Prelude.{◌≡◌, IsTrue, IfOk};
 ghost use Rattle.std.specs.List.{list_all};
 ghost use Rattle.tx_prims.specs.Errors.{text_of_error, text_with_holes, value_of, value_or_nothing, filled, ends_with_a_point};
@@ -6,9 +7,9 @@ ghost use Rattle.tx_prims.specs.Errors.{text_of_error, text_with_holes, value_of
 use crate::{Key, Table, TableRow};
 use std::alloc::{AllocError, Global};
 
-/// The text of an error: the first `len` of `bytes`, with spaces in the others. It ends with a
-/// point. An asterisk in it stands for what is filled in there, `first` at the first and `second` at the
-/// second.
+/// The text of an error: the first `len` of `bytes`, with spaces in the others. It ends with a point.
+/// An asterisk in it stands for what is filled in there: `first` at the first one, `second` at the
+/// second one.
 #[derive(Clone, Copy, Debug)]
 pub struct ErrorText {
     pub len: u8,

@@ -1,7 +1,8 @@
-//! Tables whose keys are short texts that rise in the order of bytes.
+//! Tables whose keys are short texts that rise in the order of bytes, and two of them: the primitives
+//! and the texts of errors.
 #![tactic(auto)]
 
-ghost use Rattle.std.specs.Prelude.{◌≡◌, ◌==◌, ℕ, ◌<◌, ◌≤◌, List, length, slice_index_or, IsTrue, Some, None, IfSome};
+ghost use Rattle.std.specs.Prelude.{◌≡◌, ◌==◌, ◌<◌, length, IsTrue, IfSome};
 ghost use Rattle.std.specs.Option.{option_copied};
 ghost use Rattle.std.specs.List.{list_all};
 ghost use Rattle.std.specs.Ordering.{nat_cmp};

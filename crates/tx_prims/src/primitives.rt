@@ -1,6 +1,6 @@
-//! The primitives by family, and their table, which is ordered by name. The chapters of *The TeXbook*
-//! that list the primitives are 24 to 26, and *TeX: The Program* puts each where its routine stands.
-ghost use Rattle.std.specs.Prelude.{◌≡◌, IsTrue};
+//! The primitives by family, and their table, which is ordered by name. *The TeXbook* has them in its
+//! chapters 20 and 24 to 26. Those of e-TeX are named as e-TeX names them.
+ghost use Rattle.std.specs.Prelude.{◌≡◌};
 ghost use Rattle.tx_prims.specs.Rows.{row_of};
 ghost use Rattle.tx_prims.specs.Primitives.{family_of, primitive_at};
 
