@@ -8,8 +8,9 @@ use Rattle.tx_prims.specs.declared.errors.ErrorText.{ErrorText}
 use Rattle.tx_prims.specs.declared.errors.TheConstants.{ERRORS, ASTERISK}
 use Rattle.tx_prims.specs.Rows.{row_of}
 
--- the text of the error with this number and this case
-abbrev pub text_of_error : ℕ → ℕ → Option ErrorText
+-- The text of the error with this number and this case. It is opaque where it is cited, so that no
+-- goal carries the rows; a proof that needs it at a given error writes `unfolding`.
+unfoldable pub text_of_error : ℕ → ℕ → Option ErrorText
 text_of_error number case = row_of (number ∷ case ∷ []) ERRORS
 
 -- the text, in which an asterisk stands for each hole

@@ -197,6 +197,7 @@ pub fn each_text_ends_with_a_point()
 
 /// The text of the error with this number and this case, counted from 0, or None where there is no
 /// such error.
+#[tactic(auto, unfolding(crate::specs::Errors::text_of_error))]
 pub fn error_text(number: u8, case: u8) -> Option<ErrorText>
     ensures { result ≡ text_of_error number case }
 {

@@ -1,8 +1,7 @@
 //! The primitives by family, and their table, which is ordered by name. *The TeXbook* has them in its
 //! chapters 20 and 24 to 26. Those of e-TeX are named as e-TeX names them.
-ghost use Rattle.std.specs.Prelude.{◌≡◌};
-ghost use Rattle.tx_prims.specs.Rows.{row_of};
-ghost use Rattle.tx_prims.specs.Primitives.{family_of, primitive_at};
+ghost use Rattle.std.specs.Prelude.{◌≡◌, ℕ, ◌<◌, List, length, option_and_then, IfSome};
+ghost use Rattle.tx_prims.specs.Primitives.{family_of, primitive_named, place_named, primitive_at};
 
 use crate::{Key, Table, TableRow};
 
@@ -742,21 +741,41 @@ pub static PRIMITIVES: [TableRow<Primitive>; PRIMITIVE_COUNT] = [
 
 /// The table of primitives.
 pub fn primitive_table() -> Table<'static, PRIMITIVE_COUNT, Primitive>
-    ensures { result.rows.now ≡ PRIMITIVES }
+    ensures rows { result.rows.now ≡ PRIMITIVES }
+    ensures count { length result.rows.now ≡ PRIMITIVE_COUNT }
 {
     Table::new(&PRIMITIVES)
 }
 
 /// The primitive of this name, or None where no primitive has it.
+#[tactic(auto, unfolding(crate::specs::Primitives::primitive_named))]
 pub fn primitive_named(name: &[u8]) -> Option<Primitive>
-    ensures { result ≡ row_of name.now PRIMITIVES }
+    ensures { result ≡ primitive_named name.now }
 {
     primitive_table().find(name).copied()
 }
 
+/// The place in the table of this name, counted from 0, or None where no primitive has it.
+#[tactic(auto, unfolding(crate::specs::Primitives::place_named))]
+pub fn place_named(name: &[u8]) -> Option<u16>
+    ensures place { result ≡ place_named name.now }
+    ensures within { IfSome result (λ place. place < PRIMITIVE_COUNT) }
+{
+    match primitive_table().place(name) {
+        Some(place) => Some(place as u16),
+        None => None,
+    }
+}
+
 /// The primitive at this place of the table, counted from 0, or None past the last one.
+#[tactic(auto, unfolding(crate::specs::Primitives::primitive_at))]
 pub fn primitive_at(place: u16) -> Option<Primitive>
     ensures { result ≡ primitive_at place }
 {
     primitive_table().at(place as usize).copied()
 }
+
+/// The primitive of a name is the one at its place.
+pub fn each_name_has_its_place()
+    ensures { (name : List ℕ) → primitive_named name ≡ option_and_then primitive_at (place_named name) }
+{}

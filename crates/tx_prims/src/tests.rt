@@ -1,8 +1,8 @@
 //! Each name of the primitives by family, worked lines of errors, and a call of each function.
 use crate::errors::{ERROR_COUNT, HoleValues, error_table, error_text};
 use crate::primitives::{
-    Command, Family, PRIMITIVE_COUNT, PRIMITIVES, Primitive, primitive_at, primitive_named,
-    primitive_table,
+    Command, Family, PRIMITIVE_COUNT, PRIMITIVES, Primitive, place_named, primitive_at,
+    primitive_named,
 };
 use crate::{Key, TableRow, lawful};
 use std::process::Abort;
@@ -135,14 +135,13 @@ fn finds_no_other_name(rt: HostRuntime) {
 
 #[test]
 fn places_are_those_of_the_table(rt: HostRuntime) {
-    let table = primitive_table();
     for (place, row) in PRIMITIVES.iter().enumerate() {
-        assert_eq!(rt; table.place(row.key.text()), Some(place));
+        assert_eq!(rt; place_named(row.key.text()), Some(place as u16));
         assert_eq!(rt; primitive_at(place as u16), Some(row.row));
     }
     assert_eq!(rt; primitive_at(PRIMITIVE_COUNT as u16), None);
-    assert_eq!(rt; table.place(b" "), Some(0));
-    assert_eq!(rt; table.place(b"year"), Some(PRIMITIVE_COUNT - 1));
+    assert_eq!(rt; place_named(b" "), Some(0));
+    assert_eq!(rt; place_named(b"year"), Some(PRIMITIVE_COUNT as u16 - 1));
 }
 
 /// A row whose key has the two bytes at its front.
