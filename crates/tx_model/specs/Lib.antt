@@ -4,6 +4,7 @@ pub mod Lines
 pub mod Scanner
 pub mod Pending
 pub mod Environment
+pub mod Shown
 pub mod Bare
 pub mod Log
 pub mod Errors
