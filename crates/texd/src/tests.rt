@@ -105,19 +105,23 @@ fn inputs_that_are_no_frame(rt: HostRuntime) -> Result<(), Fail> {
     Ok(())
 }
 
+/// Words that are refused, on an input that is one frame.
+fn refused<R: Threads + Wait + Send + Sync + Abort>(
+    rt: &R,
+    alloc: Global,
+    words: &[&str],
+) -> Result<(), Fail> {
+    let (code, written) = play(rt, alloc, words, b"REGION 1 0\n", &[], &[])?;
+    assert_eq!(rt; code, 2);
+    assert_eq!(rt; written.len(), 0);
+    Ok(())
+}
+
 #[test]
 fn words_that_are_refused(rt: HostRuntime) -> Result<(), Fail> {
-    let frame = b"REGION 1 0\n".as_slice();
-    for words in [
-        [].as_slice(),
-        ["twice"].as_slice(),
-        ["once", "a.tex"].as_slice(),
-    ] {
-        let (code, written) = play(&rt, rt.alloc(), words, frame, &[], &[])?;
-        assert_eq!(rt; code, 2);
-        assert_eq!(rt; written.len(), 0);
-    }
-    Ok(())
+    refused(&rt, rt.alloc(), &[])?;
+    refused(&rt, rt.alloc(), &["twice"])?;
+    refused(&rt, rt.alloc(), &["once", "a.tex"])
 }
 
 #[test]
