@@ -1,13 +1,13 @@
 -- Skips: what was passed over counts only by the conditionals that it leaves open.
-use Rattle.std.proofs.Common.{◌≡◌, ℕ, zero, suc, ◌+◌, ◌-◌, ◌<◌, Bool, true, false, cond, nat_eq, List, [], ◌∷◌, ◌++◌, Option, Some, None, refl, sym, ◌∙◌, ap, subst, arith, append_assoc, append-nil, IsTrue, replicate}
+use Rattle.std.proofs.Common.{◌≡◌, ℕ, zero, suc, ◌+◌, ◌<◌, Bool, true, false, cond, nat_eq, List, [], ◌∷◌, ◌++◌, Option, Some, None, refl, sym, ◌∙◌, ap, subst, arith, append_assoc, append-nil, IsTrue, replicate}
 use Rattle.std.specs.Prelude.{count_by}
 use Rattle.std.proofs.lemmas.Bool.Decides.{nat_tests}
 use Rattle.std.proofs.lemmas.List.Sums.{sum_by-cons, sum_by_push}
 use Rattle.tx_cond.specs.declared.skip.SkipKind.{SkipKind}
 use Rattle.tx_cond.specs.declared.skip.SkipKind.TheVariants as kind
 use Rattle.tx_cond.specs.declared.skip.SkipEnd.{SkipEnd}
-use Rattle.tx_cond.specs.Skips.{Wanted, Skipped, Open, Ended, Skipping, wanted_word, is_conditional, is_fi, is_balanced, end_behind, skip_behind, skip, says}
-use Rattle.tx_cond.specs.Laws.{EndsAtWord, SkipEndsAtWord, WordEndsSkip}
+use Rattle.tx_cond.specs.Skips.{Wanted, Skipped, Ended, Skipping, wanted_word, is_conditional, is_fi, is_balanced, end_behind, skip_behind, skip, says}
+use Rattle.tx_cond.specs.Laws.{SkipEndsAtWord, WordEndsSkip}
 
 -- the conditionals and the \fi among tokens
 abbrev conditionals : List SkipKind → ℕ
@@ -82,19 +82,21 @@ nested-none wanted (suc n) token unwanted =
     ap (λ (t : Bool). cond t (wanted_word wanted token) None) test
 
 -- a token that doesn't end the skip is passed over
-pub passes : (wanted : Wanted) (n m : ℕ) (token : SkipKind) (later : List SkipKind) →
-    (n ≡ 0 → wanted_word wanted token ≡ None) → n + one_if (is_conditional token) ≡ m + one_if (is_fi token) →
-    skip_behind wanted (replicate n kind.If) (token ∷ later) ≡ skip_behind wanted (replicate m kind.If) later
-passes wanted n m token later unwanted e =
-    let c0 = conditionals-nested n in
-    let f0 = fis-nested n in
-    let c2 = conditionals-nested m in
-    let f2 = fis-nested m in
-    let c1 = conditionals-push (replicate n kind.If) token in
-    let f1 = fis-push (replicate n kind.If) token in
-    let h : conditionals (replicate n kind.If ++ token ∷ []) + fis (replicate m kind.If) ≡ conditionals (replicate m kind.If) + fis (replicate n kind.If ++ token ∷ []) = omega arith in
-    passed-over wanted (replicate n kind.If) token later (nested-none wanted n token unwanted)
-      ∙ same-depth wanted (replicate n kind.If ++ token ∷ []) (replicate m kind.If) later h
+pub passes : (before after : Skipping) (token : SkipKind) (later : List SkipKind) →
+    before.wanted ≡ after.wanted → (before.nested ≡ 0 → wanted_word before.wanted token ≡ None) →
+    before.nested + one_if (is_conditional token) ≡ after.nested + one_if (is_fi token) →
+    says before (token ∷ later) ≡ says after later
+passes before after token later same unwanted e =
+    let c0 = conditionals-nested before.nested in
+    let f0 = fis-nested before.nested in
+    let c2 = conditionals-nested after.nested in
+    let f2 = fis-nested after.nested in
+    let c1 = conditionals-push (replicate before.nested kind.If) token in
+    let f1 = fis-push (replicate before.nested kind.If) token in
+    let h : conditionals (replicate before.nested kind.If ++ token ∷ []) + fis (replicate after.nested kind.If) ≡ conditionals (replicate after.nested kind.If) + fis (replicate before.nested kind.If ++ token ∷ []) = omega arith in
+    passed-over before.wanted (replicate before.nested kind.If) token later (nested-none before.wanted before.nested token unwanted)
+    ∙ same-depth before.wanted (replicate before.nested kind.If ++ token ∷ []) (replicate after.nested kind.If) later h
+    ∙ ap (λ w. skip_behind w (replicate after.nested kind.If) later) same
 
 -- what it means that a skip ended behind what it had passed over
 record EndsBehind (wanted : Wanted) (passed later : List SkipKind) (word : SkipEnd) (rest : List SkipKind) : Type 0 where
@@ -103,7 +105,7 @@ record EndsBehind (wanted : Wanted) (passed later : List SkipKind) (word : SkipE
   split : later ≡ more ++ token ∷ rest
   ends : end_behind wanted (passed ++ more) token ≡ Some word
   least : (front : List SkipKind) (early : SkipKind) (back : List SkipKind) →
-    more ≡ front ++ early ∷ back → end_behind wanted (passed ++ front) early ≡ None
+      more ≡ front ++ early ∷ back → end_behind wanted (passed ++ front) early ≡ None
 
 nil-split : (front : List SkipKind) (early : SkipKind) (back : List SkipKind) → [] ≡ front ++ early ∷ back → ⊥
 nil-split [] early back e = cc
@@ -118,7 +120,7 @@ regroup passed token more = append_assoc passed (token ∷ []) more
 least-cons : (wanted : Wanted) (passed : List SkipKind) (token : SkipKind) (more : List SkipKind) →
     end_behind wanted passed token ≡ None →
     ((front : List SkipKind) (early : SkipKind) (back : List SkipKind) →
-      more ≡ front ++ early ∷ back → end_behind wanted ((passed ++ token ∷ []) ++ front) early ≡ None) →
+    more ≡ front ++ early ∷ back → end_behind wanted ((passed ++ token ∷ []) ++ front) early ≡ None) →
     (front : List SkipKind) (early : SkipKind) (back : List SkipKind) →
     token ∷ more ≡ front ++ early ∷ back → end_behind wanted (passed ++ front) early ≡ None
 least-cons wanted passed token more here later [] early back e =
@@ -191,7 +193,7 @@ skip-ends-at-word wanted tokens word rest e =
 up-to : (wanted : Wanted) (passed more : List SkipKind) (token : SkipKind) (word : SkipEnd) (rest : List SkipKind) →
     end_behind wanted (passed ++ more) token ≡ Some word →
     ((front : List SkipKind) (early : SkipKind) (back : List SkipKind) →
-      more ≡ front ++ early ∷ back → end_behind wanted (passed ++ front) early ≡ None) →
+    more ≡ front ++ early ∷ back → end_behind wanted (passed ++ front) early ≡ None) →
     skip_behind wanted passed (more ++ token ∷ rest) ≡ Ended word rest
 up-to wanted passed [] token word rest ends least =
     let P : List SkipKind → Type 0 = λ xs. end_behind wanted xs token ≡ Some word in
@@ -201,10 +203,10 @@ up-to wanted passed (m ∷ more) token word rest ends least =
     let N : List SkipKind → Type 0 = λ xs. end_behind wanted xs m ≡ None in
     let first : end_behind wanted passed m ≡ None = subst N (append-nil passed) (least [] m more refl) in
     passed-over wanted passed m (more ++ token ∷ rest) first
-      ∙ up-to wanted (passed ++ m ∷ []) more token word rest (subst P (sym (regroup passed m more)) ends)
-        (λ front early back split.
-          let Q : List SkipKind → Type 0 = λ xs. end_behind wanted xs early ≡ None in
-          subst Q (sym (regroup passed m front)) (least (m ∷ front) early back (ap (λ xs. m ∷ xs) split)))
+    ∙ up-to wanted (passed ++ m ∷ []) more token word rest (subst P (sym (regroup passed m more)) ends)
+    (λ front early back split.
+    let Q : List SkipKind → Type 0 = λ xs. end_behind wanted xs early ≡ None in
+    subst Q (sym (regroup passed m front)) (least (m ∷ front) early back (ap (λ xs. m ∷ xs) split)))
 
 joined : (b : Bool) (o : Option SkipEnd) (word : SkipEnd) → IsTrue b → o ≡ Some word → cond b o None ≡ Some word
 joined true o word h e = e
@@ -213,5 +215,5 @@ joined false o word h e = cc
 pub word-ends-skip : WordEndsSkip
 word-ends-skip wanted tokens word rest r =
     ap (λ xs. skip wanted xs) r.split
-      ∙ up-to wanted [] r.passed r.token word rest
-        (joined (is_balanced r.passed) (wanted_word wanted r.token) word r.balanced r.is_wanted) r.least
+    ∙ up-to wanted [] r.passed r.token word rest
+    (joined (is_balanced r.passed) (wanted_word wanted r.token) word r.balanced r.is_wanted) r.least

@@ -1,8 +1,8 @@
 -- What is proved of skips.
-use Rattle.std.specs.Prelude.{◌≡◌, List, [], ◌∷◌, ◌++◌, Option, Some, None, IsTrue}
+use Rattle.std.specs.Prelude.{◌≡◌, List, ◌∷◌, ◌++◌, Some, None, IsTrue}
 use Rattle.tx_cond.specs.declared.skip.SkipKind.{SkipKind}
 use Rattle.tx_cond.specs.declared.skip.SkipEnd.{SkipEnd}
-use Rattle.tx_cond.specs.Skips.{Wanted, Skipped, Open, Ended, wanted_word, is_balanced, end_behind, skip}
+use Rattle.tx_cond.specs.Skips.{Wanted, Ended, wanted_word, is_balanced, end_behind, skip}
 
 -- the rest begins right after a wanted word, behind tokens of which each conditional has its \fi, and
 -- no token of these ends the skip
