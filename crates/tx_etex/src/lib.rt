@@ -1,6 +1,7 @@
 //! What e-TeX adds: expressions, and lists of tokens as text.
 #![tactic(auto)]
 
+pub mod examples;
 pub mod laws;
 mod texts;
 
