@@ -8,7 +8,7 @@ use Rattle.tx_tok.specs.declared.tok.Tok.{Tok}
 use Rattle.tx_tok.specs.declared.tok.Tok.TheVariants as tok
 use Rattle.tx_tok.specs.Tokens.{token_in, tokens_in}
 use Rattle.tx_etex.specs.Texts.{text_token, bytes_in_list, detokenized}
-use Rattle.tx_etex.specs.Laws.{IsTextOf, AreTextsOf, DetokenizedIsShown}
+use Rattle.tx_etex.specs.Laws.{IsTextOf, DetokenizedIsShown}
 
 one-is-shown : (cats : ℕ → Cat) (escape : ℤ) (naming : ℕ → List ℕ) (token : Tok) (text : List ℕ) →
     IsTextOf cats escape naming token text → bytes_in_list text token ≡ shown_in_list cats escape (token_in naming token)

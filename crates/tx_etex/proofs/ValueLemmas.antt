@@ -1,9 +1,9 @@
 -- The value of an expression without quotients.
-use Rattle.std.proofs.Common.{◌≡◌, Bool, true, false, cond, Option, Some, None, ℤ, refl, sym, ap, ◌∙◌}
+use Rattle.std.proofs.Common.{◌≡◌, Bool, true, false, cond, Option, Some, None, refl, ap, ◌∙◌}
 use Rattle.std.specs.Prelude.{◌+ℤ◌, ◌*ℤ◌, neg_ℤ}
 use Rattle.tx_num.specs.declared.quantities.QuantKind.{QuantKind}
 use Rattle.tx_num.specs.declared.quantities.QuantKind.TheVariants as quant_kind
-use Rattle.tx_etex.specs.Expressions.{Amount, amount_of, amount_sum, amount_difference, amount_times, Tree, Quantity, Inner, Sum, Difference, Product, Quotient, is_in_range, within, combined, exact, value}
+use Rattle.tx_etex.specs.Expressions.{Amount, amount_of, amount_sum, amount_difference, amount_times, Tree, Quantity, Inner, Sum, Difference, Product, Quotient, is_in_range, within, combined, exact}
 use Rattle.tx_etex.specs.Laws.{HasNoQuotient, arithmetic, ValueIsArithmetic}
 
 kept : (b : Bool) (x y : Amount) → cond b (Some x) None ≡ Some y → x ≡ y

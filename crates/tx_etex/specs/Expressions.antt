@@ -1,5 +1,5 @@
 -- Expressions (e-TeX manual): trees of quantities, sums, products and quotients, and their exact values.
-use Rattle.std.specs.Prelude.{ℕ, ◌==◌, ◌&&◌, ◌^◌, nat_lt, Bool, true, false, if◌then◌else◌, Option, Some, None, ℤ, pos, ◌+ℤ◌, ◌*ℤ◌, neg_ℤ, unsigned_abs}
+use Rattle.std.specs.Prelude.{ℕ, ◌==◌, ◌&&◌, ◌^◌, nat_lt, Bool, if◌then◌else◌, Option, Some, None, ℤ, pos, ◌+ℤ◌, ◌*ℤ◌, neg_ℤ, unsigned_abs}
 use Rattle.tx_num.specs.declared.glue.Order.{Order}
 use Rattle.tx_num.specs.declared.glue.Order.TheVariants as order
 use Rattle.tx_num.specs.declared.quantities.Quant.{Quant}
