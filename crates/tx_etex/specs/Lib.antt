@@ -1,0 +1,4 @@
+pub mod Texts
+pub mod Expressions
+pub mod Readings
+pub mod Laws
