@@ -1,0 +1,4 @@
+pub mod Items
+pub mod Spelling
+pub mod WordTexts
+pub mod Keywords
