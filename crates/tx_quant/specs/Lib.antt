@@ -2,3 +2,8 @@ pub mod Items
 pub mod Spelling
 pub mod WordTexts
 pub mod Keywords
+pub mod Errors
+pub mod Bases
+pub mod Nexts
+pub mod Numbers
+pub mod NumberStates
