@@ -4,6 +4,7 @@
 mod base;
 mod digits;
 mod errors;
+pub mod examples;
 mod keyword;
 mod next;
 mod number;
