@@ -1,9 +1,9 @@
-use Rattle.std.proofs.Common.{◌≡◌, ℕ, suc, ◌+◌, ◌<◌, List, [], ◌∷◌, length, drop, get_or, refl, ap, sym, ◌∙◌}
+use Rattle.std.proofs.Common.{◌≡◌, ℕ, ◌+◌, List, [], ◌∷◌, drop}
 use Rattle.std.proofs.Math.Seq.{drop-cons}
 use Rattle.tx_quant.specs.declared.word.Word.{Word}
 use Rattle.tx_quant.specs.declared.part.Part.{Part}
 use Rattle.tx_quant.specs.WordTexts.{text_of}
-use Rattle.tx_quant.specs.Items.{Item, Move, Reading}
+use Rattle.tx_quant.specs.Items.{Item, Reading}
 use Rattle.tx_quant.specs.Spelling.{Words, letter, going_on_with, spell}
 use Rattle.tx_quant.specs.Keywords.{due_of}
 

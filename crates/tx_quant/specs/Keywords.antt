@@ -12,7 +12,7 @@ use Rattle.tx_quant.specs.declared.keyword.Keyword.{Keyword}
 use Rattle.tx_quant.specs.declared.keyword.Stage.{Stage}
 use Rattle.tx_quant.specs.declared.keyword.Stage.TheVariants.{Blank, Within}
 use Rattle.tx_quant.specs.WordTexts.{text_of, place_of}
-use Rattle.tx_quant.specs.Items.{Item, Move, Asks, Gives, Reading}
+use Rattle.tx_quant.specs.Items.{Asks, Gives, Reading}
 use Rattle.tx_quant.specs.Spelling.{Words, going_on_with, spell, nonblank}
 
 -- a word of which all letters are due

@@ -1,8 +1,8 @@
 -- What an item makes of a stage of a reading.
-use Rattle.std.specs.Prelude.{◌≡◌, ℕ, List, [], ◌∷◌}
+use Rattle.std.specs.Prelude.{◌≡◌, List, ◌∷◌}
 use Rattle.tx_quant.specs.declared.next.Next.{Next}
 use Rattle.tx_quant.specs.declared.next.Next.TheVariants as next
-use Rattle.tx_quant.specs.Items.{Item, Move, Gives, Fails, Reading, GoesOn}
+use Rattle.tx_quant.specs.Items.{Item, Gives, Fails, Reading, GoesOn}
 
 -- it is what the reading `old` says of that item, where `says` tells what a stage says of later items
 abbrev pub Follows : {S V : Type 0} → (S → Reading V) → Next S V → Reading V → Item → Type 0

@@ -1,13 +1,9 @@
 -- What a number that is being read says of later items.
-use Rattle.std.specs.Prelude.{◌≡◌, ℕ, ℤ, List, [], ◌∷◌}
-use Rattle.tx_num.specs.declared.quantities.ErrorNo.{ErrorNo}
-use Rattle.tx_quant.specs.declared.base.Base.{Base}
-use Rattle.tx_quant.specs.declared.base.Base.TheVariants.{Octal, Decimal, Hexadecimal}
-use Rattle.tx_quant.specs.declared.digits.Digits.{Digits}
+use Rattle.std.specs.Prelude.{ℤ}
 use Rattle.tx_quant.specs.declared.number.NumStage.{NumStage}
 use Rattle.tx_quant.specs.declared.number.NumStage.TheVariants as stage
 use Rattle.tx_quant.specs.declared.number.NumScan.{NumScan}
-use Rattle.tx_quant.specs.Items.{Item, Move, Gives, Fails, Reading, GoesOn}
+use Rattle.tx_quant.specs.Items.{Reading}
 use Rattle.tx_quant.specs.Bases.{radix_of}
 use Rattle.tx_quant.specs.Numbers.{number_after, first_digit, digits, alphabetic, optional_space}
 

@@ -1,5 +1,5 @@
 -- Numbers (TeX: The Program, sections 440 to 445).
-use Rattle.std.specs.Prelude.{ℕ, ◌+◌, ◌*◌, ◌-◌, ◌^◌, ◌==◌, ◌||◌, nat_le, nat_lt, Bool, true, false, not, if◌then◌else◌, ℤ, pos, neg_ℤ, List, [], ◌∷◌, Option, Some, None, Result, Ok, Err}
+use Rattle.std.specs.Prelude.{ℕ, ◌+◌, ◌*◌, ◌-◌, ◌^◌, ◌==◌, ◌||◌, nat_lt, Bool, false, not, if◌then◌else◌, ℤ, pos, neg_ℤ, [], ◌∷◌, Option, Some, None, Result, Ok, Err}
 use Rattle.tx_model.specs.declared.category.Cat.{Cat}
 use Rattle.tx_model.specs.declared.category.Cat.TheVariants as cat
 use Rattle.tx_tok.specs.declared.tok.Tok.TheVariants as tok

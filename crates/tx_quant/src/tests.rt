@@ -1,7 +1,7 @@
 use crate::errors::{IMPROPER_CONSTANT, INCOMPATIBLE_UNITS, MISSING_NUMBER, NUMBER_TOO_BIG};
 use crate::{KeySet, Keyword, NumScan};
 use std::test::Fail;
-use tx_num::{Feed, GlueSpec, Quant, Sp, Want};
+use tx_num::{Feed, GlueSpec, Order, Quant, Sp, Want};
 use tx_tok::{Cat, Tok};
 
 /// A character with the category that it has at the start.
@@ -94,17 +94,24 @@ fn numbers(rt: HostRuntime) -> Result<(), Fail> {
     Ok(())
 }
 
+/// Glue of one point.
+fn one_point() -> GlueSpec {
+    GlueSpec {
+        width: Sp::POINT,
+        stretch: Sp::ZERO,
+        stretch_order: Order::Finite,
+        shrink: Sp::ZERO,
+        shrink_order: Order::Finite,
+    }
+}
+
 #[test]
 fn quantities_as_numbers(rt: HostRuntime) -> Result<(), Fail> {
-    let glue = GlueSpec {
-        width: Sp::POINT,
-        ..GlueSpec::ZERO
-    };
     for (quantity, answer) in [
         (Quant::Int(5), Feed::Done(-5, 0)),
         (Quant::Dim(Sp::MAX), Feed::Done(-1_073_741_823, 0)),
-        (Quant::Glue(glue), Feed::Done(-65536, 0)),
-        (Quant::Mu(glue), Feed::Bad(INCOMPATIBLE_UNITS)),
+        (Quant::Glue(one_point()), Feed::Done(-65536, 0)),
+        (Quant::Mu(one_point()), Feed::Bad(INCOMPATIBLE_UNITS)),
     ] {
         let mut scan = NumScan::new();
         assert_eq!(rt; scan.feed(token(b'-')), Feed::More(0));
