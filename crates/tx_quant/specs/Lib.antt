@@ -1,0 +1,10 @@
+pub mod Items
+pub mod Spelling
+pub mod WordTexts
+pub mod Keywords
+pub mod Typed
+pub mod Errors
+pub mod Bases
+pub mod Nexts
+pub mod Numbers
+pub mod NumberStates
