@@ -60,22 +60,29 @@ rank order.Filll = 3
 abbrev pub normal : Flex → Flex
 normal f = if unsigned_abs f.size == 0 then record { size = pos 0; order = order.Finite } else f
 
--- of two stretches the one of the higher order counts alone
-abbrev pub higher_or_both : Flex → Flex → Flex
-higher_or_both a b =
+-- of two stretches of one order the sum or difference; else the one of the higher order counts alone, with
+-- its sign, in a difference too
+abbrev pub higher_or_both : (ℤ → ℤ → ℤ) → Flex → Flex → Flex
+higher_or_both f a b =
     if nat_lt (rank a.order) (rank b.order) then b
     else if nat_lt (rank b.order) (rank a.order) then a
-    else normal (record { size = a.size +ℤ b.size; order = a.order })
+    else normal (record { size = f a.size b.size; order = a.order })
 
-abbrev pub flex_sum : Flex → Flex → Flex
-flex_sum a b = higher_or_both (normal a) (normal b)
+abbrev pub flex_by : (ℤ → ℤ → ℤ) → Flex → Flex → Flex
+flex_by f a b = higher_or_both f (normal a) (normal b)
+
+abbrev pub amount_by : (ℤ → ℤ → ℤ) → Amount → Amount → Amount
+amount_by f a b = record {
+  width = f a.width b.width;
+  stretch = flex_by f a.stretch b.stretch;
+  shrink = flex_by f a.shrink b.shrink;
+}
 
 abbrev pub amount_sum : Amount → Amount → Amount
-amount_sum a b = record {
-  width = a.width +ℤ b.width;
-  stretch = flex_sum a.stretch b.stretch;
-  shrink = flex_sum a.shrink b.shrink;
-}
+amount_sum a b = amount_by (λ x y. x +ℤ y) a b
+
+abbrev pub amount_difference : Amount → Amount → Amount
+amount_difference a b = amount_by (λ x y. x +ℤ neg_ℤ y) a b
 
 -- each part of the amount, changed alike
 abbrev pub each : (ℤ → ℤ) → Amount → Amount
@@ -84,9 +91,6 @@ each f a = record {
   stretch = record { size = f a.stretch.size; order = a.stretch.order };
   shrink = record { size = f a.shrink.size; order = a.shrink.order };
 }
-
-abbrev pub amount_difference : Amount → Amount → Amount
-amount_difference a b = amount_sum a (each neg_ℤ b)
 
 -- an amount times an integer
 abbrev pub amount_times : Amount → Amount → Amount

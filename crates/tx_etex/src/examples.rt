@@ -5,7 +5,7 @@ ghost use Rattle.std.specs.Prelude.{◌≡◌, ◌∷◌, [], Some, None, pos, n
 ghost use Rattle.tx_etex.specs.Expressions.{Quantity, Inner, Sum, Difference, Product, Quotient, rigid, value};
 ghost use Rattle.tx_etex.specs.Readings.{Token, Factor, Asks, Gives, Fails, expression, missing_parenthesis, overflow};
 
-use tx_num::{Quant, QuantKind, Want};
+use tx_num::{Order, Quant, QuantKind, Want};
 use tx_tok::{Cat, Tok};
 
 /// 7/2 and -7/2, rounded away from zero; 5/3 and 4/3, to the nearest.
@@ -28,6 +28,11 @@ pub fn divisors_and_sums()
     ensures zero { value QuantKind.Int (Quotient (Quantity (Quant.Int (pos 1))) (Quantity (Quant.Int (pos 0)))) ≡ None }
     ensures inner { value QuantKind.Int (Product (Quantity (Quant.Int (pos 0))) (Inner (Quotient (Quantity (Quant.Int (pos 1))) (Quantity (Quant.Int (pos 0)))))) ≡ None }
     ensures sum { value QuantKind.Int (Difference (Quantity (Quant.Int (pos 2))) (Inner (Sum (Quantity (Quant.Int (pos 3))) (Quantity (Quant.Int (pos 4)))))) ≡ Some (rigid (negsuc 4)) }
+{}
+
+/// `0pt plus 1fil - 0pt plus 2fill` has the stretch of the higher order, with its sign.
+pub fn stretches()
+    ensures higher { value QuantKind.Glue (Difference (Quantity (Quant.Glue (record { width = pos 0; stretch = pos 1; stretch_order = Order.Fil; shrink = pos 0; shrink_order = Order.Finite }))) (Quantity (Quant.Glue (record { width = pos 0; stretch = pos 2; stretch_order = Order.Fill; shrink = pos 0; shrink_order = Order.Finite })))) ≡ Some (record { width = pos 0; stretch = record { size = pos 2; order = Order.Fill }; shrink = record { size = pos 0; order = Order.Finite } }) }
 {}
 
 /// `7/2\relax` gives 4, with `\relax` to be put back; `(1\relax` wants a parenthesis; `50000*50000\relax`
