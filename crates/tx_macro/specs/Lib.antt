@@ -1,0 +1,4 @@
+pub mod ParameterText
+pub mod Outcome
+pub mod Settling
+pub mod Matching
