@@ -1,3 +1,4 @@
+pub mod Substitution
 pub mod ParameterText
 pub mod Outcome
 pub mod Settling

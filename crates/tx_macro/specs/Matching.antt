@@ -89,14 +89,9 @@ says m tokens =
 abbrev pub IsOpen : MacroMatch → Type 0
 IsOpen m = (says m [] ≡ Open) × WaitsFor m.rule (drop m.found m.delimiters.items) m.current
 
-abbrev pub arguments_in : Outcome → List (List Tok)
-arguments_in (Matched arguments rest) = arguments
-arguments_in Open = []
-arguments_in (Fails e) = []
-
 -- the arguments that were found
 abbrev pub arguments_of : MacroMatch → List (List Tok)
-arguments_of m = arguments_in (says m [])
+arguments_of m = m.arguments.items
 
 -- The matcher is done: a call was fed, and all tokens to come follow it.
 abbrev pub IsDone : MacroMatch → Type 0

@@ -15,3 +15,9 @@ is_text_from n (t ∷ params) =
 -- a parameter text that is not empty
 abbrev pub IsParameterText : List Tok → Type 0
 IsParameterText params = IsTrue (is_text_from 1 params) × (0 < length params)
+
+-- each parameter in a body is one of a parameter text with so many
+abbrev pub has_parameters_to : ℕ → List Tok → Bool
+has_parameters_to count [] = true
+has_parameters_to count (tok.Param k ∷ body) = nat_le 1 k && nat_le k count && has_parameters_to count body
+has_parameters_to count (t ∷ body) = has_parameters_to count body

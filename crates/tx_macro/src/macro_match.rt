@@ -1,6 +1,6 @@
 //! A macro call under way.
 
-ghost use Rattle.std.specs.Prelude.{◌≡◌, ◌≤◌, ◌<◌, List, length, drop, vec_len, IfOk};
+ghost use Rattle.std.specs.Prelude.{◌≡◌, ◌≤◌, ◌<◌, List, length, drop, vec_len, IfOk, OnOk, OnErr, IsTrue, ◌++◌};
 ghost use Rattle.tx_tok.specs.declared.tok.Tok.{Tok as TokOf};
 
 use crate::argument::{Argument, Step};
@@ -44,8 +44,9 @@ pub struct MacroMatch {
 
 impl MacroMatch {
     ghost use Rattle.tx_macro.specs.Outcome.{outcome};
-    ghost use Rattle.tx_macro.specs.ParameterText.{IsParameterText};
-    ghost use Rattle.tx_macro.specs.Matching.{says, IsOpen, Answers, EndsArgument, WaitsFor, Progress};
+    ghost use Rattle.tx_macro.specs.ParameterText.{IsParameterText, has_parameters_to};
+    ghost use Rattle.tx_macro.specs.Substitution.{substituted};
+    ghost use Rattle.tx_macro.specs.Matching.{says, IsOpen, IsDone, arguments_of, Answers, EndsArgument, WaitsFor, Progress};
 
     /// The match of a call of the macro with this parameter text, of which no token was fed. `long` says
     /// that its arguments may have `\par`, and `par` is that token. The only error is want of memory.
@@ -80,6 +81,36 @@ impl MacroMatch {
         } else {
             self.feed_argument(t)
         }
+    }
+
+    /// Adds the body with the arguments in the place of its parameters to `out`. Condition: the last
+    /// answer was `Done`, and each parameter in the body is one of the parameter text. The only error is
+    /// want of memory, which leaves `out` as it was. *TeX: The Program*, part 25.
+    pub fn substitute(&self, body: &[Tok], out: &mut Vec<Tok>) -> Result<(), AllocError>
+        requires done { IsDone self.now }
+        requires parameters { IsTrue (has_parameters_to (length (arguments_of self.now)) body.now) }
+        ensures ok { OnOk result (out.new.items ≡ out.old.items ++ substituted (arguments_of self.now) body.now) }
+        ensures err { OnErr result (out.new.items ≡ out.old.items) }
+    {
+        let text = self.substituted(*out.allocator(), body)?;
+        out.extend_from_slice(text.as_slice())
+    }
+
+    /// The body with the arguments in the place of its parameters.
+    fn substituted(&self, alloc: Global, body: &[Tok]) -> Result<Vec<Tok>, AllocError>
+        requires { IsTrue (has_parameters_to (length (arguments_of self.now)) body.now) }
+        ensures { IfOk result (λ text. text.items ≡ substituted (arguments_of self.now) body.now) }
+    {
+        let mut text = Vec::new(alloc);
+        for token in body {
+            match *token {
+                Tok::Param(number) => {
+                    text.extend_from_slice(self.arguments[usize::from(number) - 1].as_slice())?;
+                }
+                token => text.push(token)?,
+            }
+        }
+        Ok(text)
     }
 
     /// Feeds a token where the first delimiter is under way.
@@ -120,11 +151,13 @@ impl MacroMatch {
         requires { WaitsFor self.now.rule (drop self.now.found self.now.delimiters.items) self.now.current }
         ensures { Progress self.now result }
     {
-        if self.matched < self.first.len() || self.found < self.delimiters.len() {
-            Match::More
-        } else {
-            Match::Done
+        if self.matched < self.first.len() {
+            return Match::More;
         }
+        if self.found < self.delimiters.len() {
+            return Match::More;
+        }
+        Match::Done
     }
 
     /// Keeps the argument that has ended, and begins the next one.
