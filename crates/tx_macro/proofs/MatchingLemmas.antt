@@ -1,5 +1,5 @@
 -- What a matcher says, step by step.
-use Rattle.std.proofs.Common.{◌≡◌, ℕ, zero, suc, ◌+◌, ◌<◌, ◌≤◌, Bool, true, false, List, [], ◌∷◌, ◌++◌, length, take, drop, take_all, set, get_or, refl, sym, ap, ◌∙◌, inl, inr, arith}
+use Rattle.std.proofs.Common.{◌≡◌, ℕ, ◌+◌, ◌<◌, ◌≤◌, true, List, [], ◌∷◌, ◌++◌, length, take, drop, take_all, set, get_or, refl, sym, ap, ◌∙◌, inl, inr, arith}
 use Rattle.std.proofs.lemmas.Bool.{cases_lt}
 use Rattle.std.proofs.lemmas.List.{drop_more, drop_all, take_more_set}
 use Rattle.tx_tok.specs.declared.tok.Tok.{Tok}
@@ -10,7 +10,7 @@ use Rattle.tx_macro.specs.declared.macro_match.Match.{Match}
 use Rattle.tx_macro.specs.declared.macro_match.Match.TheVariants as answer
 use Rattle.tx_macro.specs.declared.rule.Rule.{Rule}
 use Rattle.tx_macro.specs.declared.rule.Misuse.{Misuse}
-use Rattle.tx_macro.specs.Outcome.{same, Piece, Found, Partial, Wrong, Standing, Stands, Within, Differs, delimited, standing, Outcome, Matched, Open, Fails, with_argument, followed, arguments, opened, front, behind, argument_before}
+use Rattle.tx_macro.specs.Outcome.{same, Found, Partial, Wrong, Standing, Stands, Within, Differs, delimited, standing, Outcome, Matched, Open, Fails, with_argument, followed, arguments, opened, front, behind, argument_before}
 use Rattle.tx_macro.specs.Matching.{piece, with_arguments, going_on, WaitsFor, IsFresh, IsShort, says, IsOpen, IsDone, Progress, Answers}
 
 pub with_arguments-matched : (args : List (List Tok)) (tokens : List Tok) → with_arguments args (Matched [] tokens) ≡ Matched args tokens

@@ -1,11 +1,11 @@
 -- One token more of a delimited argument.
-use Rattle.std.proofs.Common.{◌≡◌, ℕ, zero, suc, ◌+◌, ◌<◌, ◌≤◌, Bool, true, false, ◌&&◌, eqb, List, [], ◌∷◌, ◌++◌, length, take, drop, get_or, refl, sym, ap, ◌∙◌, arith, append_assoc, append-nil, length-drop}
+use Rattle.std.proofs.Common.{◌≡◌, ℕ, zero, suc, ◌+◌, ◌<◌, ◌≤◌, Bool, true, false, ◌&&◌, eqb, List, [], ◌∷◌, ◌++◌, length, take, drop, get_or, refl, ap, ◌∙◌, arith, append_assoc, append-nil, length-drop}
 use Rattle.std.proofs.lemmas.List.{drop_more, take_more, take-append-le, drop-append-le}
 use Rattle.std.proofs.lemmas.Bool.Decides.{nat_tests}
 use Rattle.tx_tok.specs.declared.tok.Tok.{Tok}
 use Rattle.tx_macro.specs.declared.rule.Rule.{Rule}
 use Rattle.tx_macro.specs.declared.rule.Misuse.{Misuse}
-use Rattle.tx_macro.specs.Outcome.{Depth, At, Breaks, grown, Standing, Differs, standing, Piece, Found, Partial, Wrong, stripped, ended, onward, delimited}
+use Rattle.tx_macro.specs.Outcome.{At, Breaks, grown, Standing, Differs, standing, Piece, Found, Partial, Wrong, stripped, ended, onward, delimited}
 use Rattle.tx_macro.specs.Settling.{begins}
 use Rattle.tx_macro.proofs.StandingLemmas.{standing-differs, standing-stands, standing-within}
 

@@ -1,8 +1,8 @@
 -- When a delimiter stands.
-use Rattle.std.proofs.Common.{◌≡◌, ℕ, zero, suc, ◌+◌, ◌<◌, ◌≤◌, Bool, true, false, ◌&&◌, List, [], ◌∷◌, ◌++◌, length, refl, arith}
+use Rattle.std.proofs.Common.{◌≡◌, ◌<◌, ◌≤◌, true, false, ◌&&◌, List, [], ◌∷◌, ◌++◌, length, refl, arith}
 use Rattle.std.proofs.lemmas.Grind.{common_steps}
 use Rattle.tx_tok.specs.declared.tok.Tok.{Tok}
-use Rattle.tx_macro.specs.Outcome.{same, Standing, Stands, Within, Differs, standing}
+use Rattle.tx_macro.specs.Outcome.{same, Stands, Within, Differs, standing}
 use Rattle.tx_macro.specs.Settling.{begins}
 
 -- a delimiter doesn't begin with more tokens than it has

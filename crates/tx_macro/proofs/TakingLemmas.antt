@@ -1,5 +1,5 @@
 -- What feeding an argument answers, from what its parts answer.
-use Rattle.std.proofs.Common.{◌≡◌, ℕ, ◌<◌, List, [], ◌∷◌, length, ◌∙◌, arith}
+use Rattle.std.proofs.Common.{◌≡◌, ◌<◌, List, [], ◌∷◌, length, ◌∙◌, arith}
 use Rattle.tx_tok.specs.declared.tok.Tok.{Tok}
 use Rattle.tx_macro.specs.declared.argument.Argument.{Argument}
 use Rattle.tx_macro.specs.declared.argument.Step.{Step}

@@ -1,5 +1,5 @@
 -- What a matcher says of the tokens to come.
-use Rattle.std.specs.Prelude.{◌≡◌, ℕ, ◌+◌, ◌-◌, ◌≤◌, List, [], ◌∷◌, ◌++◌, length, take, drop, slice_set}
+use Rattle.std.specs.Prelude.{◌≡◌, ◌+◌, ◌-◌, ◌≤◌, List, [], ◌∷◌, ◌++◌, length, take, drop, slice_set}
 use Rattle.tx_tok.specs.declared.tok.Tok.{Tok}
 use Rattle.tx_macro.specs.declared.macro_match.Match.{Match}
 use Rattle.tx_macro.specs.declared.macro_match.Match.TheVariants.{More, Done, NoMatch, ParEnded, ExtraBrace, Memory}

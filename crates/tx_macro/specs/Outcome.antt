@@ -139,7 +139,7 @@ undelimited rule depth argument [] = Partial
 undelimited rule depth argument (t ∷ tokens) =
     if length argument == 0 && is_blank t then undelimited rule depth argument tokens
     else onward (grown rule depth t) (λ n. if n == 0 then Found (stripped (argument ++ t ∷ [])) tokens
-        else undelimited rule n (argument ++ t ∷ []) tokens)
+    else undelimited rule n (argument ++ t ∷ []) tokens)
 
 abbrev pub argument_before : Rule → List Tok → List Tok → Piece
 argument_before rule [] tokens = undelimited rule 0 [] tokens

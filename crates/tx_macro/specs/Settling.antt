@@ -1,5 +1,5 @@
 -- Where the delimiter of an argument may stand.
-use Rattle.std.specs.Prelude.{◌≡◌, ℕ, ◌+◌, ◌≤◌, ◌<◌, Bool, true, false, ◌&&◌, List, [], ◌∷◌, ◌++◌, length, take, drop}
+use Rattle.std.specs.Prelude.{◌≡◌, ◌+◌, ◌≤◌, ◌<◌, Bool, true, false, ◌&&◌, List, [], ◌∷◌, ◌++◌, length, take, drop}
 use Rattle.tx_tok.specs.declared.tok.Tok.{Tok}
 use Rattle.tx_macro.specs.declared.argument.Place.{Place}
 use Rattle.tx_macro.specs.declared.rule.Rule.{Rule}

@@ -1,5 +1,5 @@
 -- A body with arguments in the place of its parameters. The TeXbook, chapter 20.
-use Rattle.std.specs.Prelude.{ℕ, ◌-◌, List, [], ◌∷◌, ◌++◌, slice_index_or}
+use Rattle.std.specs.Prelude.{◌-◌, List, [], ◌∷◌, ◌++◌, slice_index_or}
 use Rattle.tx_tok.specs.declared.tok.Tok.{Tok}
 use Rattle.tx_tok.specs.declared.tok.Tok.TheVariants as tok
 

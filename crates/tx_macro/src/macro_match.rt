@@ -183,3 +183,6 @@ fn empty_slots(alloc: Global, count: usize) -> Result<Vec<Toks>, AllocError>
     }
     Ok(slots)
 }
+
+#[cfg(test)]
+mod tests;

@@ -8,7 +8,7 @@ invariant-loop-place l = record {
   says : (later : List Tok) → delimited l.fn.rule l.delimiter l.fn.from.depth (take l.fn.from.known l.taken) (drop l.fn.from.known l.taken ++ later) ≡ delimited l.fn.rule l.delimiter l.place.depth (take l.place.known l.taken) (drop l.place.known l.taken ++ later);
   within : l.place.known ≤ length l.taken;
   shallow : l.place.depth ≤ l.place.known;
-  short : length l.taken ≤ l.place.known + length l.delimiter
+  short : length l.taken ≤ l.place.known + length l.delimiter;
 }
 
 abbrev pub decreases-loop-place : goal.decreases-loop-place

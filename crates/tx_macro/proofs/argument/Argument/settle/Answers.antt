@@ -1,4 +1,4 @@
-use Rattle.std.proofs.Common.{◌≡◌, ◌∙◌, ◌<◌, length, take, drop, arith, length-drop, refl}
+use Rattle.std.proofs.Common.{◌≡◌, ◌∙◌, ◌<◌, length, take, drop, arith, length-drop}
 use Rattle.tx_macro.specs.Settling.{Settles}
 use Rattle.tx_macro.proofs.SettlingLemmas.{delimited-within, delimited-stands}
 use Rattle.tx_macro.proofs.argument.Argument.settle.Goals as goal

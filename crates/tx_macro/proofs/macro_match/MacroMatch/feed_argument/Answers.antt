@@ -1,4 +1,4 @@
-use Rattle.std.proofs.Common.{◌≡◌, ◌<◌, ◌≤◌, length, get_or, take, drop, [], sym, ◌∙◌, vec_len, arith}
+use Rattle.std.proofs.Common.{◌<◌, ◌≤◌, length, take, drop, [], sym, ◌∙◌, arith}
 use Rattle.tx_macro.specs.declared.rule.Misuse.TheVariants as misuse
 use Rattle.tx_macro.proofs.MatchingLemmas.{argument_left, waits_there, waits-at, waits-fresh, says-open, says-more, says-wrong, says-ended, says-same, waits-same, answers-progress, is_found}
 use Rattle.tx_macro.proofs.macro_match.MacroMatch.feed_argument.Goals as goal
@@ -20,10 +20,13 @@ returns-in-More c =
     let first : length m.first.items ≤ m.matched = omega arith in
     let left : m.found < length m.delimiters.items = argument_left m first c.requires.open in
     let is = is_found m.delimiters.items m.found c.index.result.now c.as_slice-delimiter.result.now c.index.ensures c.as_slice-delimiter.ensures in
-    let d = c.as_slice-delimiter.result.now in
-    (λ later. says-more m.rule m.first.items m.matched (take m.found m.arguments.items) m.delimiters.items m.found d m.current c.feed.new.self c.args.t later first left is (c.in-More.ensures.0 later),
-      (says-open m.rule m.first.items m.matched (take m.found m.arguments.items) m.delimiters.items m.found d c.feed.new.self first left is c.in-More.ensures.1,
-        waits-at m.rule m.delimiters.items m.found d c.feed.new.self left is c.in-More.ensures.1 c.in-More.ensures.2))
+    let d = c.as_slice-delimiter.result.now in (
+      λ later. says-more m.rule m.first.items m.matched (take m.found m.arguments.items) m.delimiters.items m.found d m.current c.feed.new.self c.args.t later first left is (c.in-More.ensures.0 later),
+      (
+        says-open m.rule m.first.items m.matched (take m.found m.arguments.items) m.delimiters.items m.found d c.feed.new.self first left is c.in-More.ensures.1,
+        waits-at m.rule m.delimiters.items m.found d c.feed.new.self left is c.in-More.ensures.1 c.in-More.ensures.2,
+      ),
+    )
 
 pub returns-in-Wrong-NoMatch : goal.returns-in-Wrong-NoMatch
 returns-in-Wrong-NoMatch c =
