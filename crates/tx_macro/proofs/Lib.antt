@@ -1,0 +1,4 @@
+pub mod StandingLemmas
+pub mod SettlingLemmas
+pub mod MatchingLemmas
+pub mod TakingLemmas

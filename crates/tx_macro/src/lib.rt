@@ -1,0 +1,14 @@
+//! Macro calls: the tokens behind a macro's name are split into the delimiters of its parameter text
+//! and the arguments between them, one token at a time.
+//!
+//! `specs/` says what a list of tokens is for a parameter text; [`MacroMatch`] is fed the tokens and
+//! answers as the definition does, and `substitute` puts the arguments into a body.
+#![tactic(auto)]
+
+mod argument;
+mod delimiters;
+mod macro_match;
+mod rule;
+
+pub use macro_match::{MacroMatch, Match};
+pub use tx_tok::Tok;
