@@ -1,9 +1,10 @@
 -- All that a run works on.
-use Rattle.std.specs.Prelude.{ℕ, ℤ, ◌+◌, Bool, List, ◌==◌, if◌then◌else◌}
+use Rattle.std.specs.Prelude.{ℕ, ℤ, ◌+◌, Bool, false, List, map, ◌++◌, ◌==◌, if◌then◌else◌}
 use Rattle.tx_model.specs.declared.error.Error.{Error}
 use Rattle.tx_model.specs.declared.error.Error.TheVariants.{NotBuilt}
 use Rattle.tx_model.specs.Tokens.{Token}
-use Rattle.tx_model.specs.Pending.{Member, Next, First, Empty, Blocked, next, line_number}
+use Rattle.tx_model.specs.Log.{log_line}
+use Rattle.tx_model.specs.Pending.{Member, Single, Next, First, Empty, Blocked, next, line_number}
 use Rattle.tx_model.specs.Environment.{Meaning, Environment, EndLineChar, NewLineChar, meaning_of, category_of, parameter_of}
 
 -- what a run has made so far: the steps spent, the pages and their bytes, and the log
@@ -48,6 +49,17 @@ pub data Taking : Type 0 where
 
 abbrev pub with_pending : List Member → World → World
 with_pending members w = record w { pending = members }
+
+-- these tokens in front of what is pending
+abbrev pub put_in_front : List Token → World → World
+put_in_front tokens w = with_pending (map (λ t. Single t false) tokens ++ w.pending) w
+
+abbrev pub with_environment : Environment → World → World
+with_environment maps w = record w { environment = maps }
+
+-- a line more in the log
+abbrev pub logged : List ℕ → World → World
+logged text w = record w { output = record w.output { log = w.output.log ++ log_line (parameter_of w.environment NewLineChar) text } }
 
 -- one step more
 abbrev pub stepped : List Member → World → World
