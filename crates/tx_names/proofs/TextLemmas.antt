@@ -1,17 +1,16 @@
 -- The texts of a table and their numbers.
-use Rattle.std.proofs.Common.{◌≡◌, ℕ, suc, ◌+◌, ◌-◌, ◌≤◌, ◌<◌, Bool, true, false, cond, nat_eq, eqb, nat_lt, List, [], ◌∷◌, ◌++◌, map, length, get_or, position, Option, Some, None, Result, Ok, Err, IfOk, OnOk, if◌then◌else◌, not, refl, sym, ◌∙◌, ap, subst, inl, inr, arith, length-append, ◌||◌}
+use Rattle.std.proofs.Common.{◌≡◌, ℕ, suc, ◌+◌, ◌-◌, ◌≤◌, ◌<◌, Bool, true, false, cond, eqb, nat_lt, List, [], ◌∷◌, ◌++◌, map, length, get_or, position, Option, Some, None, Result, Ok, Err, IfOk, OnOk, if◌then◌else◌, not, refl, sym, ◌∙◌, ap, inl, inr, arith, length-append, ◌||◌}
 use Rattle.std.specs.List.{prefix_len, position_or_len, list_any, AllByRecursion, IsDistinct as Differ}
 use Rattle.std.specs.Option.{option_map}
 use Rattle.std.specs.Str.{bytes_eq}
 use Rattle.std.proofs.lemmas.Bool.{cases_lt}
 use Rattle.std.proofs.lemmas.Bool.Decides.{nat_tests}
-use Rattle.std.proofs.lemmas.List.{length-map, map-append, get_or_append_left}
+use Rattle.std.proofs.lemmas.List.{length-map, map-append}
 use Rattle.std.proofs.lemmas.List.Folds.{position_or_len_push}
 use Rattle.std.proofs.lemmas.List.Sums.{prefix_len-le-length}
 use Rattle.std.proofs.lemmas.List.Quantifiers.{position-Some}
 use Rattle.std.proofs.lemmas.Map.Made.{AllPairs-from_IsDistinct}
 use Rattle.std.proofs.lemmas.Slice.Eq.{bytes_eq-Decides}
-use Rattle.std.proofs.Math.Seq.{get_or-append_seam}
 use Rattle.indexmap.specs.IndexSet.{insert_key}
 use Rattle.tx_names.specs.Names.{Names, HasNumber, text_at, number_of, with_text, IsDistinct, Naming, Agrees}
 
@@ -23,7 +22,7 @@ prefix_len-map f p (x ∷ xs) = ap (λ n. cond (p (f x)) (1 + n) 0) (prefix_len-
 place_below : ℕ → ℕ → Option ℕ
 place_below place len = cond (nat_lt place len) (Some place) None
 
-pub position-map : {X Y : Type 0} (f : X → Y) (p : Y → Bool) (xs : List X) → position p (map f xs) ≡ position (λ x. p (f x)) xs
+position-map : {X Y : Type 0} (f : X → Y) (p : Y → Bool) (xs : List X) → position p (map f xs) ≡ position (λ x. p (f x)) xs
 unfolding place_below
 position-map f p xs =
     ap (λ n. place_below n (length (map f xs))) (prefix_len-map f (λ y. not (p y)) xs)
@@ -52,17 +51,12 @@ one_place texts differ i j within_i within_j same =
       ]
     ]
 
-pub distinct_from_differ : (first : ℕ) (texts : List (List ℕ)) → Differ bytes_eq texts → IsDistinct (record { first = first; texts = texts })
+distinct_from_differ : (first : ℕ) (texts : List (List ℕ)) → Differ bytes_eq texts → IsDistinct (record { first = first; texts = texts })
 distinct_from_differ first texts differ n m has_n has_m same =
     let e : n - first ≡ m - first = one_place texts differ (n - first) (m - first) (omega arith) (omega arith) same in
     omega arith
 
--- a table over elements that are seen through f
-pub distinct-map : {X : Type 0} (f : X → List ℕ) (first : ℕ) (xs : List X) → Differ (λ x y. bytes_eq (f x) (f y)) xs →
-    IsDistinct (record { first = first; texts = map f xs })
-distinct-map f first xs differ = distinct_from_differ first (map f xs) (differ-map f bytes_eq xs differ)
-
--- what a number tells of its text
+-- a text's number is one of the table's, and leads back to the text
 some_place : (first n : ℕ) (place : Option ℕ) → option_map (λ i. first + i) place ≡ Some n → place ≡ Some (n - first) × (first ≤ n)
 some_place first n (Some i) e =
     let is : first + i ≡ n = cc in
@@ -78,14 +72,17 @@ at_number names text n e =
     let within = found.0 in
     ((above, omega arith), sym ((bytes_eq-Decides text (text_at names n)).0 found.1))
 
+below : (n m : ℕ) → n < m → nat_lt n m ≡ true
+below n m h = grind (arith, nat_tests)
+
 -- where no element passes a test
 none_place : (n len : ℕ) → place_below n len ≡ None → len ≤ n
 unfolding place_below
 none_place n len e =
     elim (cases_lt n len) [
-      | inl before ↦ (let t : nat_lt n len ≡ true = grind (arith, nat_tests) in
-          let s : cond (nat_lt n len) (Some n) None ≡ Some n = ap (λ b. cond b (Some n) None) t in
-          let bad : None ≡ Some n = sym e ∙ s in cc)
+      | inl before ↦
+          let bad : None ≡ Some n = sym e ∙ ap (λ b. cond b (Some n) None) (below n len before) in
+          cc
       | inr behind ↦ behind
     ]
 
@@ -104,49 +101,38 @@ absent p xs e =
     let near = prefix_len-le-length (λ x. not (p x)) xs in
     (none_passes p xs far, omega arith)
 
--- the number of a text among elements that are seen through f
-module _ {X : Type 0} (f : X → List ℕ) (first : ℕ) (xs : List X) where
-  pub number_of-map : (text : List ℕ) →
-      number_of (record { first = first; texts = map f xs }) text ≡ option_map (λ i. first + i) (position (λ x. bytes_eq text (f x)) xs)
-  number_of-map text = ap (option_map (λ i. first + i)) (position-map f (bytes_eq text) xs)
+no_number_no_place : (first : ℕ) (place : Option ℕ) → option_map (λ i. first + i) place ≡ None → place ≡ None
+no_number_no_place first None e = refl
+no_number_no_place first (Some i) e = cc
 
-  no_number : (text : List ℕ) → number_of (record { first = first; texts = map f xs }) text ≡ None → position (λ x. bytes_eq text (f x)) xs ≡ None
-  no_number text e = by (position (λ x. bytes_eq text (f x)) xs) (sym (number_of-map text) ∙ e)
-    where
-      by : (o : Option ℕ) → option_map (λ i. first + i) o ≡ None → o ≡ None
-      by None h = refl
-      by (Some i) h = cc
+-- a table over elements that are seen through f
+module _ {X : Type 0} (f : X → List ℕ) (first : ℕ) where
+  abbrev table_of : List X → Names
+  table_of xs = record { first = first; texts = map f xs }
 
-  module _ (x : X) (absent_here : number_of (record { first = first; texts = map f xs }) (f x) ≡ None) where
-    -- a new element goes last, and its text joins the table
-    texts-inserted : (new : List X) → new ≡ insert_key (λ a b. bytes_eq (f a) (f b)) xs x → map f new ≡ map f xs ++ f x ∷ []
-    texts-inserted new e =
-        let none = (absent (λ y. bytes_eq (f x) (f y)) xs (no_number (f x) absent_here)).0 in
-        ap (map f) (e ∙ ap (λ b. if b then xs else xs ++ x ∷ []) none) ∙ map-append f xs (x ∷ [])
+  pub number_of-map : (xs : List X) (text : List ℕ) → number_of (table_of xs) text ≡ option_map (λ i. first + i) (position (λ x. bytes_eq text (f x)) xs)
+  number_of-map xs text = ap (option_map (λ i. first + i)) (position-map f (bytes_eq text) xs)
 
-  -- the same of the table that contracts see, and of the text that the new element was made of
-  module _ (names : Names) (view_is : record { first = first; texts = map f xs } ≡ names) (text : List ℕ) (absent_there : number_of names text ≡ None) (x : X) (is : f x ≡ text) where
-    absent_seen : number_of (record { first = first; texts = map f xs }) (f x) ≡ None
-    absent_seen = ap (number_of (record { first = first; texts = map f xs })) is ∙ ap (λ n. number_of n text) view_is ∙ absent_there
+  pub distinct-map : (xs : List X) → Differ (λ x y. bytes_eq (f x) (f y)) xs → IsDistinct (table_of xs)
+  distinct-map xs differ = distinct_from_differ first (map f xs) (differ-map f bytes_eq xs differ)
 
-    pub table-joined : (new : List X) → new ≡ insert_key (λ a b. bytes_eq (f a) (f b)) xs x → record { first = first; texts = map f new } ≡ with_text text names
-    table-joined new e =
-        ap (λ (ts : List (List ℕ)). let t : Names = record { first = first; texts = ts } in t) (texts-inserted x absent_seen new e)
-        ∙ ap (λ t. with_text t (record { first = first; texts = map f xs })) is
-        ∙ ap (with_text text) view_is
+  -- an element with a new text goes last
+  inserted_last : (xs : List X) (x : X) → number_of (table_of xs) (f x) ≡ None → insert_key (λ a b. bytes_eq (f a) (f b)) xs x ≡ xs ++ x ∷ []
+  inserted_last xs x none =
+      let no_place = no_number_no_place first (position (λ y. bytes_eq (f x) (f y)) xs) (sym (number_of-map xs (f x)) ∙ none) in
+      ap (λ b. if b then xs else xs ++ x ∷ []) (absent (λ y. bytes_eq (f x) (f y)) xs no_place).0
 
-below : (n m : ℕ) → n < m → nat_lt n m ≡ true
-below n m h = grind (arith, nat_tests)
+  -- and its text joins the table
+  pub table-joined : (xs new : List X) (x : X) (text : List ℕ) (names : Names) → table_of xs ≡ names → f x ≡ text → number_of names text ≡ None →
+      new ≡ insert_key (λ a b. bytes_eq (f a) (f b)) xs x → table_of new ≡ with_text text names
+  table-joined xs new x text names view_is is none inserted =
+      let absent_here : number_of (table_of xs) (f x) ≡ None = ap (number_of (table_of xs)) is ∙ ap (λ n. number_of n text) view_is ∙ none in
+      let joined : with_text (f x) (table_of xs) ≡ with_text text names = ap (λ t. with_text t (table_of xs)) is ∙ ap (with_text text) view_is in
+      let texts : map f new ≡ map f xs ++ f x ∷ [] = ap (map f) (inserted ∙ inserted_last xs x absent_here) ∙ map-append f xs (x ∷ []) in
+      ap (λ (ts : List (List ℕ)). let t : Names = record { first = first; texts = ts } in t) texts ∙ joined
 
 -- a text that joins a table has the next number
 module _ (names : Names) (text : List ℕ) where
-  no_place : number_of names text ≡ None → position (bytes_eq text) names.texts ≡ None
-  no_place e = by (position (bytes_eq text) names.texts) e
-    where
-      by : (o : Option ℕ) → option_map (λ i. names.first + i) o ≡ None → o ≡ None
-      by None h = refl
-      by (Some i) h = cc
-
   last_place : position_or_len (bytes_eq text) names.texts ≡ length names.texts → position_or_len (bytes_eq text) (names.texts ++ text ∷ []) ≡ length names.texts
   last_place e = by (position_or_len (bytes_eq text) names.texts) (bytes_eq text text) e ((bytes_eq-Decides text text).1 refl) (position_or_len_push (bytes_eq text) names.texts text)
     where
@@ -159,7 +145,7 @@ module _ (names : Names) (text : List ℕ) where
   number_of-joined none =
       let p = bytes_eq text in
       let place = position_or_len p (names.texts ++ text ∷ []) in
-      let at_end : position_or_len p names.texts ≡ length names.texts = (absent p names.texts (no_place none)).1 in
+      let at_end : position_or_len p names.texts ≡ length names.texts = (absent p names.texts (no_number_no_place names.first (position p names.texts) none)).1 in
       let at : place ≡ length names.texts = last_place at_end in
       let len : length (names.texts ++ text ∷ []) ≡ length names.texts + 1 = length-append names.texts (text ∷ []) in
       let within : nat_lt place (length (names.texts ++ text ∷ [])) ≡ true = below place (length (names.texts ++ text ∷ [])) (omega arith) in

@@ -118,15 +118,15 @@ mod tests {
     fn numbers_from_five_on(rt: HostRuntime) -> Result<(), Fail> {
         let mut table = NameTable::new(rt.alloc(), 5)?;
         assert!(rt; table.is_empty());
-        assert_eq!(rt; table.intern(b"relax")?, 5);
-        assert_eq!(rt; table.intern(b"par")?, 6);
-        assert_eq!(rt; table.intern(b"relax")?, 5);
-        assert_eq!(rt; table.find(b"end"), None);
-        assert_eq!(rt; table.len(), 2);
+        assert!(rt; table.intern(b"relax")? == 5);
+        assert!(rt; table.intern(b"par")? == 6);
+        assert!(rt; table.intern(b"relax")? == 5);
+        assert!(rt; table.find(b"end").is_none());
+        assert!(rt; table.len() == 2);
         table.has_naming();
-        let number = table.find(b"par").expect(&rt, "a number");
-        assert_eq!(rt; number, 6);
-        assert!(rt; table.text(number) == b"par");
+        let number = table.find(b"par").ok_or("absent")?;
+        assert!(rt; number == 6);
+        assert!(rt; table.text(number) == b"par".as_slice());
         Ok(())
     }
 }

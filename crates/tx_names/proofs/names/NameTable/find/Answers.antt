@@ -1,4 +1,4 @@
-use Rattle.std.proofs.Common.{◌≡◌, ◌+◌, Some, None, sym, ◌∙◌, ap, subst}
+use Rattle.std.proofs.Common.{◌+◌, sym, ◌∙◌, ap}
 use Rattle.std.specs.Option.{option_map}
 use Rattle.tx_names.specs.Names.{number_of}
 use Rattle.tx_names.proofs.TextLemmas.{number_of-map}

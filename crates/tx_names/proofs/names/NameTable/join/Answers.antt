@@ -10,5 +10,5 @@ invariant_of-self-2 c = (
 pub returns-clause-texts : goal.returns-clause-texts
 returns-clause-texts c =
     let made = c.in_ok-owned.ensures.items_if_clones_equal (λ x y same. same) in
-    table-joined (λ v. v.items) c.self.inside.first c.self.inside.texts.keys c.args.self.now c.self.view_is c.args.text.now
-    c.requires c.in_ok-owned.owned made c.insert.new.self.keys c.in_ok-insert.ensures.keys
+    table-joined (λ v. v.items) c.self.inside.first c.self.inside.texts.keys c.insert.new.self.keys c.in_ok-owned.owned c.args.text.now c.args.self.now
+    c.self.view_is made c.requires c.in_ok-insert.ensures.keys
