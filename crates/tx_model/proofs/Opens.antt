@@ -5,6 +5,7 @@ use Rattle.tx_model.specs.World.{World, Output, Failure, failure, Command, Takes
 use Rattle.tx_model.specs.declared.error.Error.{Error}
 use Rattle.tx_model.specs.Moves.{Kind, Expanded, Value, TextEnd, Unexpandable, Item, Tok, End, Given, Move, Take, Sub, Again, Done, Bad, move_in, expansion}
 use Rattle.tx_model.specs.Reads.{Result, Gave, Failed, Spent, passing, reads, follow, Reads}
+use Rattle.tx_model.specs.Region.{outcome_of}
 use Rattle.tx_model.specs.Opens.{Open, begun, Stands, Then, Comes, ComesGiven, GoesOn}
 use Rattle.tx_model.proofs.Steps.{reads-done, reads-bad, reads-again, reads-takes, reads-end, reads-spends, reads-breaks, reads-gave, reads-failed, reads-spent}
 
@@ -19,11 +20,11 @@ here o items w m stands says = ap (λ xs. move_in o.kind xs w) (sym (append-nil 
 
 -- a failure, or the want of a step, within a reading is that of those around it
 then-failed : (outer : List Open) (f : Failure) (r : Result) → Failed f ≡ r → Then outer (Failed f) r
-then-failed [] f r e = e
+then-failed [] f r e = ap outcome_of e
 then-failed (o ∷ outer) f r e = e
 
 then-spent : (outer : List Open) (output : Output) (r : Result) → Spent output ≡ r → Then outer (Spent output) r
-then-spent [] output r e = e
+then-spent [] output r e = ap outcome_of e
 then-spent (o ∷ outer) output r e = e
 
 -- a token is taken as it stands
@@ -174,7 +175,5 @@ given-bad k old item outer w w' error r bad e items stands =
     (Failed (failure error w'), reads-bad k (items ++ item ∷ []) w error w' (stands (item ∷ []) w ∙ bad), then-failed outer (failure error w') r e)
 
 -- the whole: what main control comes to from its start
-pub comes-to-end : (k : Kind) (w : World) (r : Result) → Comes (begun k) [] w r → Reads k [] w r
-comes-to-end k w r comes =
-    let all = comes [] (λ later v. refl) in
-    subst (λ s. Reads k [] w s) all.2 all.1
+pub comes-to-end : (k : Kind) (w : World) (r : Result) → Comes (begun k) [] w r → (s : Result) × Reads k [] w s × (outcome_of s ≡ outcome_of r)
+comes-to-end k w r comes = comes [] (λ later v. refl)

@@ -11,7 +11,7 @@ pub mod Errors
 pub mod World
 pub mod Moves
 pub mod Reads
-pub mod Opens
 pub mod Region
+pub mod Opens
 pub mod Frames
 pub mod Replies
