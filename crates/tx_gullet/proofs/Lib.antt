@@ -1,2 +1,6 @@
-pub mod ControlLemmas
-pub mod TakeLemmas
+pub mod LevelLemmas
+pub mod PieceLemmas
+pub mod SceneLemmas
+pub mod ShowLemmas
+pub mod EngineLemmas
+pub mod StartLemmas

@@ -1,6 +1,8 @@
 pub mod Outcomes
-pub mod Shown
-pub mod Commands
-pub mod Engine
-pub use Rattle.tx_model.specs.Region
-pub use Rattle.tx_model.specs.Bare
+pub mod Meanings
+pub mod Levels
+pub mod Pieces
+pub mod Spent
+pub mod Scenes
+pub mod Frames
+pub mod Engines

@@ -2,8 +2,17 @@
 #![tactic(auto)]
 
 mod engine;
+mod equivalents;
+mod feed;
 mod format;
+mod frame;
+mod input;
+mod meaning;
 mod outcome;
+mod scene;
+mod show;
+mod start;
+mod steps;
 mod texts;
 
 pub use engine::run;

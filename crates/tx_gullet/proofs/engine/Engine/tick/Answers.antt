@@ -1,16 +1,33 @@
-use Rattle.tx_gullet.specs.Engine.{world_of}
-use Rattle.tx_gullet.proofs.ControlLemmas.{ended, spends, breaks}
-use Rattle.tx_gullet.proofs.TakeLemmas.{after-token}
+use Rattle.std.proofs.Common.{subst}
+use Rattle.tx_names.specs.Names.{Agrees}
+use Rattle.tx_gullet.specs.Scenes.{world_of}
+use Rattle.tx_gullet.specs.Engines.{outer}
+use Rattle.tx_gullet.proofs.EngineLemmas.{wish-spent, wish-broken, frame-more}
 use Rattle.tx_gullet.proofs.engine.Engine.tick.Goals as goal
 
+pub taken-requires-clause-sound : goal.taken-requires-clause-sound
+taken-requires-clause-sound c = record {
+  scene = c.in-Token.ensures.sound;
+  frame = frame-more c.args.self.now.scene.names c.take.new.self.names c.in-Token.ensures.grows c.args.self.now.frame c.requires.sound.frame;
+}
+
 pub returns-in-Token-clause-meaning : goal.returns-in-Token-clause-meaning
-returns-in-Token-clause-meaning c = after-token c.args.self.now c.take.new.self c.in-Token.meaning c.obey.result c.in-Token.ensures.taking c.obey.ensures
+returns-in-Token-clause-meaning c naming apart agrees =
+    let now = subst (Agrees naming) c.taken.ensures.names agrees in
+    let takes = c.in-Token.ensures.taking naming apart now in
+    (takes.0, λ r e. c.taken.ensures.took naming apart now r e (world_of naming c.args.self.now.scene) takes.1)
 
 pub returns-in-End-clause-meaning : goal.returns-in-End-clause-meaning
-returns-in-End-clause-meaning c = ended (world_of c.args.self.now) (world_of c.take.new.self) c.in-End.ensures.taking
+returns-in-End-clause-meaning c naming apart agrees =
+    let takes = c.in-End.ensures.taking naming apart agrees in
+    (takes.0, λ r e. c.none_taken.ensures.took naming apart agrees r e (world_of naming c.args.self.now.scene) takes.1)
 
 pub returns-in-Spent-clause-meaning : goal.returns-in-Spent-clause-meaning
-returns-in-Spent-clause-meaning c = spends (world_of c.args.self.now) (world_of c.take.new.self).output c.in-Spent.ensures.taking
+returns-in-Spent-clause-meaning c naming apart agrees =
+    let takes = c.in-Spent.ensures.taking naming apart agrees in
+    (takes.0, λ r e. wish-spent naming c.args.self.now.frame (outer naming c.args.self.now) (world_of naming c.args.self.now.scene) _ r takes.1 e)
 
 pub returns-in-NotBuilt-clause-meaning : goal.returns-in-NotBuilt-clause-meaning
-returns-in-NotBuilt-clause-meaning c = breaks (world_of c.args.self.now) _ c.in-NotBuilt.ensures.taking
+returns-in-NotBuilt-clause-meaning c naming apart agrees =
+    let takes = c.in-NotBuilt.ensures.taking naming apart agrees in
+    (takes.0, λ r e. wish-broken naming c.args.self.now.frame (outer naming c.args.self.now) (world_of naming c.args.self.now.scene) _ r takes.1 e)
