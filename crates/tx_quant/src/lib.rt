@@ -2,17 +2,29 @@
 #![tactic(auto)]
 
 mod base;
+mod decimals;
 mod digits;
+mod dim_quantity;
+mod dim_stage;
+mod dim_token;
+mod dimension;
 mod errors;
 pub mod examples;
+mod factor;
+mod internal;
 mod keyword;
 mod next;
 mod number;
 mod part;
+mod setting;
+mod size;
+mod sizes;
 mod step;
 mod tokens;
+mod units;
 mod word;
 
+pub use dimension::DimScan;
 pub use keyword::{KeySet, Keyword};
 pub use number::NumScan;
 
