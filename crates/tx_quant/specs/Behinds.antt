@@ -13,22 +13,16 @@ pub record Behind (V : Type 0) : Type 0 where
 abbrev pub gives_before : {V : Type 0} → List Item → V → ℕ → Move (Behind V)
 gives_before items v back = Gives (record { value = v; items = items }) back
 
--- what is put back before a reading begins
+-- a reading, and what `next` makes of its value, of how many tokens are put back, and of what is behind
+abbrev pub and_then : {V W : Type 0} → Move (Behind V) → (V → ℕ → Reading W) → Move W
+and_then (Asks want back) next = Asks want back
+and_then (Gives b back) next = next b.value back b.items
+and_then (Fails error) next = Fails error
+
+-- so many tokens are put back before a reading begins
 abbrev pub after_putting_back : {V : Type 0} → ℕ → Reading V → Reading V
 after_putting_back back reading [] = putting_back back (reading [])
 after_putting_back back reading (item ∷ items) = reading (item ∷ items)
-
--- a reading, and behind its value what `then` makes of that
-abbrev pub and_then : {V W : Type 0} → Move (Behind V) → (V → Reading W) → Move W
-and_then (Asks want back) next = Asks want back
-and_then (Gives b back) next = after_putting_back back (next b.value) b.items
-and_then (Fails error) next = Fails error
-
--- a reading that is the last
-abbrev pub at_last : {V W : Type 0} → (V → W) → Move (Behind V) → Move W
-at_last f (Asks want back) = Asks want back
-at_last f (Gives b back) = Gives (f b.value) back
-at_last f (Fails error) = Fails error
 
 -- a stage follows from the reading `old` at that item, as in Follows, and a value stands before what comes later
 abbrev pub Leads : {S V : Type 0} → (S → Reading (Behind V)) → Next S V → Reading (Behind V) → Item → Type 0

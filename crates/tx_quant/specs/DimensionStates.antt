@@ -11,12 +11,12 @@ use Rattle.tx_quant.specs.declared.dim_stage.DimStage.{DimStage}
 use Rattle.tx_quant.specs.declared.dim_stage.DimStage.TheVariants as stage
 use Rattle.tx_quant.specs.declared.dimension.DimScan.{DimScan}
 use Rattle.tx_quant.specs.Items.{Item, Fails, Reading}
-use Rattle.tx_quant.specs.Behinds.{Behind, at_last}
+use Rattle.tx_quant.specs.Behinds.{Behind, and_then}
 use Rattle.tx_quant.specs.Spelling.{spell}
 use Rattle.tx_quant.specs.Units.{due}
 use Rattle.tx_quant.specs.FractionStates.{decimals_in}
 use Rattle.tx_quant.specs.Sizes.{amount}
-use Rattle.tx_quant.specs.Dimensions.{dimension_after, whole, decimals, unit_after, after_word, after_true, true_unit, no_unit_here, missing_unit, infinite, unit_space}
+use Rattle.tx_quant.specs.Dimensions.{dimension_after, whole, decimals, unit_after, after_word, after_true, true_unit, no_unit_here, missing_unit, infinite, unit_space, only_amount}
 
 abbrev pub dimension_at : Setting → DimStage → Reading (Behind Size)
 dimension_at s (stage.Sign negative) items = dimension_after s negative items
@@ -30,7 +30,7 @@ dimension_at s (stage.Infinite f order) items = infinite (amount s f unit.Pt) or
 dimension_at s (stage.Space v) items = unit_space v items
 
 abbrev pub dimension_says : DimScan → Reading ℤ
-dimension_says d items = at_last (λ size. size.amount) (dimension_at d.setting d.stage items)
+dimension_says d items = and_then (dimension_at d.setting d.stage items) only_amount
 
 -- a unit after a letter more, where `found` reads on behind a whole one
 abbrev pub stepped : Setting → (UnitWord → Reading (Behind Size)) → UnitStep → Reading (Behind Size)

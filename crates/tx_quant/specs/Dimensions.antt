@@ -17,8 +17,8 @@ use Rattle.tx_quant.specs.declared.units.UnitWord.{UnitWord}
 use Rattle.tx_quant.specs.declared.units.UnitWord.TheVariants as word
 use Rattle.tx_quant.specs.declared.units.Unit.TheVariants as unit
 use Rattle.tx_quant.specs.Errors.{missing_number, number_too_big, no_unit, no_math_unit, too_infinite, dimension_too_large, incompatible_units}
-use Rattle.tx_quant.specs.Items.{Item, Token, Quantity, Letter, Move, Asks, Fails, Reading, is_space}
-use Rattle.tx_quant.specs.Behinds.{Behind, gives_before, at_last}
+use Rattle.tx_quant.specs.Items.{Item, Token, Quantity, Letter, Move, Asks, Gives, Fails, Reading, is_space}
+use Rattle.tx_quant.specs.Behinds.{Behind, gives_before, and_then}
 use Rattle.tx_quant.specs.Spelling.{letter, spell, nonblank}
 use Rattle.tx_quant.specs.Numbers.{is_other, digit, signed, unused}
 use Rattle.tx_quant.specs.Units.{unit_words, lengths}
@@ -170,7 +170,11 @@ dimension_after s negative (item ∷ items) =
 abbrev pub dimension : Setting → Reading (Behind Size)
 dimension s items = dimension_after s false items
 
+-- a dimension alone is its amount
+abbrev pub only_amount : Size → ℕ → Reading ℤ
+only_amount size back items = Gives size.amount back
+
 -- a dimension measured in mu or not, with so much for an em and an ex
 abbrev pub dimension_value : Bool → ℤ → ℤ → Reading ℤ
 dimension_value mu em ex items =
-    at_last (λ size. size.amount) (dimension (record { math = mu; infinite = false; em = em; ex = ex }) items)
+    and_then (dimension (record { math = mu; infinite = false; em = em; ex = ex }) items) only_amount

@@ -1,13 +1,15 @@
 //! What the definitions say of some texts. Each function here does nothing: its contract is computed
 //! from the definitions.
 
-ghost use Rattle.std.specs.Prelude.{◌≡◌, ◌∷◌, ◌++◌, [], codes, pos, negsuc};
+ghost use Rattle.std.specs.Prelude.{◌≡◌, ◌∷◌, ◌++◌, [], codes, pos, negsuc, true, false};
 ghost use Rattle.tx_num.specs.declared.quantities.Want.{Want};
-ghost use Rattle.tx_quant.specs.Items.{Letter, Asks, Gives, Fails};
+ghost use Rattle.tx_num.specs.declared.quantities.Quant.{Quant};
+ghost use Rattle.tx_quant.specs.Items.{Letter, Quantity, Asks, Gives, Fails};
 ghost use Rattle.tx_quant.specs.Typed.{typed};
-ghost use Rattle.tx_quant.specs.Errors.{missing_number, number_too_big, improper_constant};
+ghost use Rattle.tx_quant.specs.Errors.{missing_number, number_too_big, improper_constant, no_unit, no_math_unit, dimension_too_large, incompatible_units};
 ghost use Rattle.tx_quant.specs.Keywords.{keyword};
 ghost use Rattle.tx_quant.specs.Numbers.{number};
+ghost use Rattle.tx_quant.specs.Dimensions.{dimension_value};
 ghost use Rattle.tx_quant.specs.declared.keyword.KeySet.{KeySet};
 
 /// Keywords are looked for without case, behind spaces that are used.
@@ -36,4 +38,25 @@ pub fn characters()
     ensures plain { number (typed (codes "`")) ≡ Asks Want.Plain 0 }
     ensures code { number (typed (codes "`") ++ Letter (Some 97) ∷ typed (codes " ")) ≡ Gives (pos 97) 0 }
     ensures improper { number (typed (codes "`") ++ Letter None ∷ []) ≡ Fails improper_constant }
+{}
+
+/// Dimensions, where one em is ten points and one ex is four.
+pub fn dimensions()
+    ensures inch { dimension_value false (pos 655360) (pos 262144) (typed (codes "1in ")) ≡ Gives (pos 4736286) 0 }
+    ensures cut { dimension_value false (pos 655360) (pos 262144) (typed (codes "-.1TRUE bp,")) ≡ Gives (negsuc 6577) 1 }
+    ensures comma { dimension_value false (pos 655360) (pos 262144) (typed (codes "- 1,5 em ")) ≡ Gives (negsuc 983039) 0 }
+    ensures point { dimension_value false (pos 655360) (pos 262144) (typed (codes ".ex ")) ≡ Gives (pos 0) 0 }
+    ensures scaled { dimension_value false (pos 655360) (pos 262144) (typed (codes "7.9sp ")) ≡ Gives (pos 7) 0 }
+    ensures open { dimension_value false (pos 655360) (pos 262144) (typed (codes "1pt")) ≡ Asks Want.Expanded 0 }
+    ensures largest { dimension_value false (pos 655360) (pos 262144) (typed (codes "16383.99999pt ")) ≡ Gives (pos 1073741823) 0 }
+    ensures too_large { dimension_value false (pos 655360) (pos 262144) (typed (codes "16384pt ")) ≡ Fails dimension_too_large }
+    ensures too_big { dimension_value false (pos 655360) (pos 262144) (typed (codes "2147483648")) ≡ Fails number_too_big }
+    ensures missing { dimension_value false (pos 655360) (pos 262144) (typed (codes "-'")) ≡ Fails missing_number }
+    ensures no_unit { dimension_value false (pos 655360) (pos 262144) (typed (codes "1p t")) ≡ Fails no_unit }
+    ensures math { dimension_value true (pos 0) (pos 0) (typed (codes "1mu ")) ≡ Gives (pos 65536) 0 }
+    ensures no_math_unit { dimension_value true (pos 0) (pos 0) (typed (codes "1mm")) ≡ Fails no_math_unit }
+    ensures internal { dimension_value false (pos 0) (pos 0) (typed (codes "-") ++ Quantity (Quant.Dim (pos 3)) ∷ []) ≡ Gives (negsuc 2) 0 }
+    ensures factor { dimension_value false (pos 0) (pos 0) (Quantity (Quant.Int (negsuc 2)) ∷ typed (codes "sp ")) ≡ Gives (negsuc 2) 0 }
+    ensures internal_unit { dimension_value false (pos 0) (pos 0) (typed (codes ".5") ++ Quantity (Quant.Dim (negsuc 2)) ∷ []) ≡ Gives (negsuc 0) 0 }
+    ensures incompatible { dimension_value true (pos 0) (pos 0) (Quantity (Quant.Dim (pos 3)) ∷ []) ≡ Fails incompatible_units }
 {}
