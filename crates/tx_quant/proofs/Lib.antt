@@ -1,2 +1,3 @@
 pub mod SpellingLemmas
 pub mod DimensionLemmas
+pub mod GlueLemmas

@@ -16,3 +16,5 @@ pub mod Behinds
 pub mod Factors
 pub mod Dimensions
 pub mod DimensionStates
+pub mod Glues
+pub mod GlueStates

@@ -11,8 +11,13 @@ mod dimension;
 mod errors;
 pub mod examples;
 mod factor;
+mod glue;
+mod glue_quantity;
+mod glue_stage;
+mod glue_token;
 mod internal;
 mod keyword;
+mod looking;
 mod next;
 mod number;
 mod part;
@@ -20,11 +25,13 @@ mod setting;
 mod size;
 mod sizes;
 mod step;
+mod stretched;
 mod tokens;
 mod units;
 mod word;
 
 pub use dimension::DimScan;
+pub use glue::GlueScan;
 pub use keyword::{KeySet, Keyword};
 pub use number::NumScan;
 

@@ -1,5 +1,8 @@
 //! Which units count.
 
+ghost use Rattle.std.specs.Prelude.{◌≡◌};
+ghost use Rattle.tx_quant.specs.Glues.{with_infinite};
+
 use tx_num::Sp;
 
 /// Which units count, and for how much.
@@ -13,4 +16,18 @@ pub(crate) struct Setting {
     pub(crate) em: Sp,
     /// One ex.
     pub(crate) ex: Sp,
+}
+
+impl Setting {
+    /// The same, but infinite units count too.
+    pub(crate) fn with_infinite(&self) -> Setting
+        ensures { result ≡ with_infinite self.now }
+    {
+        Setting {
+            math: self.math,
+            infinite: true,
+            em: self.em,
+            ex: self.ex,
+        }
+    }
 }

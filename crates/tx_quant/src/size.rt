@@ -1,5 +1,8 @@
 //! Sizes.
 
+ghost use Rattle.std.specs.Prelude.{◌≡◌};
+ghost use Rattle.tx_quant.specs.Glues.{nothing};
+
 use tx_num::{Order, Sp};
 
 /// What a dimension comes to.
@@ -9,4 +12,16 @@ pub(crate) struct Size {
     pub(crate) amount: Sp,
     /// The order of infinity.
     pub(crate) order: Order,
+}
+
+impl Size {
+    /// Nothing at all.
+    pub(crate) fn nothing() -> Self
+        ensures { result ≡ nothing }
+    {
+        Size {
+            amount: Sp::ZERO,
+            order: Order::Finite,
+        }
+    }
 }
