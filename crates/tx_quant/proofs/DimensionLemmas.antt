@@ -12,8 +12,8 @@ use Rattle.tx_quant.specs.declared.units.Begun.{Begun}
 use Rattle.tx_quant.specs.declared.units.Begun.TheVariants as begun
 use Rattle.tx_quant.specs.declared.units.UnitStep.{UnitStep}
 use Rattle.tx_quant.specs.declared.units.UnitStep.TheVariants as step
-use Rattle.tx_quant.specs.declared.dim_stage.DimStage.{DimStage}
-use Rattle.tx_quant.specs.declared.dim_stage.DimStage.TheVariants as stage
+use Rattle.tx_quant.specs.declared.dimension_stage.DimStage.{DimStage}
+use Rattle.tx_quant.specs.declared.dimension_stage.DimStage.TheVariants as stage
 use Rattle.tx_quant.specs.Items.{Item, Token, Quantity, Reading, IsOpen, GoesOn, putting_back, is_space}
 use Rattle.tx_quant.specs.Behinds.{Behind, Leads}
 use Rattle.tx_quant.specs.Spelling.{Words, letter, going_on_with, spelled, spell}
@@ -123,21 +123,9 @@ true_step s f t space l step is not_one is_letter goes items =
 pub decimal_more : (s : Setting) (negative : Bool) (n : ℕ) (ds : List ℕ) (t : Tok) (d : ℕ) (negative' : Bool) (n' : ℕ) (ds' : List ℕ) → Some d ≡ digit 10 (Token t) → ds' ≡ with_decimal ds d → negative' ≡ negative → n' ≡ n → (items : List Item) → decimals s negative n ds (Token t ∷ items) ≡ decimals s negative' n' ds' items
 decimal_more s negative n ds t d negative' n' ds' is more sign same items = rw (← is, more, sign, same)
 
--- a token that is no decimal
-pub decimals_end : (s : Setting) (negative : Bool) (n : ℕ) (ds : List ℕ) (t : Tok) (f : Factor) → None ≡ digit 10 (Token t) → f.negative ≡ negative → f.whole ≡ n → f.fraction ≡ round_digits ds → (items : List Item) → decimals s negative n ds (Token t ∷ items) ≡ unit_after s f (Token t ∷ items)
-decimals_end s negative n ds t f is sign whole fraction items =
-    let same : f ≡ factor negative n (round_digits ds) =
-    ap (λ (b : Bool). factor b f.whole f.fraction) sign ∙ ap (λ (k : ℕ). factor negative k f.fraction) whole
-    ∙ ap (λ (k : ℕ). factor negative n k) fraction in
-    rw (← is) (ap (λ (g : Factor). unit_after s g (Token t ∷ items)) (sym same))
-
--- a quantity behind decimals is a unit
-pub decimals_internal : (s : Setting) (negative : Bool) (n : ℕ) (ds : List ℕ) (q : Quant) (f : Factor) → f.negative ≡ negative → f.whole ≡ n → f.fraction ≡ round_digits ds → (items : List Item) → decimals s negative n ds (Quantity q ∷ items) ≡ unit_after s f (Quantity q ∷ items)
-decimals_internal s negative n ds q f sign whole fraction items =
-    let same : f ≡ factor negative n (round_digits ds) =
-    ap (λ (b : Bool). factor b f.whole f.fraction) sign ∙ ap (λ (k : ℕ). factor negative k f.fraction) whole
-    ∙ ap (λ (k : ℕ). factor negative n k) fraction in
-    ap (λ (g : Factor). unit_after s g (Quantity q ∷ items)) (sym same)
+-- an item that is no decimal
+pub decimals_end : (s : Setting) (negative : Bool) (n : ℕ) (ds : List ℕ) (item : Item) (f : Factor) → None ≡ digit 10 item → f ≡ factor negative n (round_digits ds) → (items : List Item) → decimals s negative n ds (item ∷ items) ≡ unit_after s f (item ∷ items)
+decimals_end s negative n ds item f is same items = rw (← is) (ap (λ (g : Factor). unit_after s g (item ∷ items)) (sym same))
 
 -- a token behind digits that is neither a digit nor a point
 pub whole_end : (s : Setting) (negative : Bool) (n : ℕ) (t : Tok) (f : Factor) (point : Bool) → point ≡ is_point (Token t) → point ≡ false → f ≡ factor negative n 0 → (items : List Item) → behind_whole s negative n (Token t ∷ items) ≡ unit_after s f (Token t ∷ items)

@@ -5,7 +5,7 @@ use Rattle.tx_num.specs.declared.quantities.Quant.TheVariants as quant
 use Rattle.tx_quant.specs.declared.next.Next.{Next}
 use Rattle.tx_quant.specs.declared.next.Next.TheVariants as next
 use Rattle.tx_quant.specs.declared.setting.Setting.{Setting}
-use Rattle.tx_quant.specs.declared.dim_stage.DimStage.TheVariants.{Sign}
+use Rattle.tx_quant.specs.declared.dimension_stage.DimStage.TheVariants.{Sign}
 use Rattle.tx_quant.specs.declared.glue_stage.GlueStage.{GlueStage}
 use Rattle.tx_quant.specs.declared.glue_stage.GlueStage.TheVariants.{Start, Width}
 use Rattle.tx_quant.specs.Items.{Item, Quantity, Reading}

@@ -7,8 +7,8 @@ use Rattle.tx_quant.specs.declared.units.Unit.TheVariants as unit
 use Rattle.tx_quant.specs.declared.units.UnitWord.{UnitWord}
 use Rattle.tx_quant.specs.declared.units.UnitStep.{UnitStep}
 use Rattle.tx_quant.specs.declared.units.UnitStep.TheVariants as step
-use Rattle.tx_quant.specs.declared.dim_stage.DimStage.{DimStage}
-use Rattle.tx_quant.specs.declared.dim_stage.DimStage.TheVariants as stage
+use Rattle.tx_quant.specs.declared.dimension_stage.DimStage.{DimStage}
+use Rattle.tx_quant.specs.declared.dimension_stage.DimStage.TheVariants as stage
 use Rattle.tx_quant.specs.declared.dimension.DimScan.{DimScan}
 use Rattle.tx_quant.specs.Items.{Item, Fails, Reading}
 use Rattle.tx_quant.specs.Behinds.{Behind, and_then}

@@ -26,6 +26,7 @@ pub(crate) struct Decimals {
 impl Decimals {
     ghost use Rattle.std.specs.Prelude.{[]};
     ghost use Rattle.tx_num.specs.Decimals.{round_digits};
+    ghost use Rattle.tx_quant.specs.Factors.{factor};
     ghost use Rattle.tx_quant.specs.Fractions.{with_decimal};
     ghost use Rattle.tx_quant.specs.FractionStates.{decimals_in};
 
@@ -65,9 +66,7 @@ impl Decimals {
 
     /// The factor that they end.
     pub(crate) fn factor(self) -> Factor
-        ensures negative { result.negative ≡ self.negative }
-        ensures whole { result.whole ≡ self.whole }
-        ensures fraction { result.fraction ≡ round_digits (decimals_in self) }
+        ensures { result ≡ factor self.negative self.whole (round_digits (decimals_in self)) }
     {
         Factor {
             negative: self.negative,

@@ -5,9 +5,9 @@ ghost use Rattle.tx_quant.specs.Items.{Item, Token, Quantity, Asks, Answers};
 ghost use Rattle.tx_quant.specs.Dimensions.{dimension_value};
 ghost use Rattle.tx_quant.specs.DimensionStates.{dimension_says};
 
-use crate::dim_quantity::after_quantity;
-use crate::dim_stage::DimStage;
-use crate::dim_token::{after, wanted};
+use crate::dimension_quantity::after_quantity;
+use crate::dimension_stage::DimStage;
+use crate::dimension_token::{after, wanted};
 use crate::next::Next;
 use crate::setting::Setting;
 use tx_num::{Feed, Quant, Sp, Want};

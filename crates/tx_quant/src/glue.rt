@@ -6,7 +6,7 @@ ghost use Rattle.tx_quant.specs.Items.{Item, Token, Quantity, Asks, Answers};
 ghost use Rattle.tx_quant.specs.Glues.{glue_value};
 ghost use Rattle.tx_quant.specs.GlueStates.{glue_says};
 
-use crate::dim_token::wanted;
+use crate::dimension_token::wanted;
 use crate::glue_quantity::after_quantity;
 use crate::glue_stage::GlueStage;
 use crate::glue_token::after;

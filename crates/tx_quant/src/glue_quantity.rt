@@ -9,8 +9,8 @@ ghost use Rattle.tx_quant.specs.DimensionStates.{dimension_at};
 ghost use Rattle.tx_quant.specs.Glues.{with_infinite};
 ghost use Rattle.tx_quant.specs.GlueStates.{glue_at};
 
-use crate::dim_quantity;
-use crate::dim_stage::DimStage;
+use crate::dimension_quantity;
+use crate::dimension_stage::DimStage;
 use crate::errors::{INCOMPATIBLE_UNITS, MISSING_NUMBER};
 use crate::glue_stage::GlueStage;
 use crate::looking::Looking;
@@ -53,7 +53,7 @@ fn in_width(setting: &Setting, stage: DimStage, q: Quant) -> Next<GlueStage, Glu
     requires { dimension_at setting.now stage [] ≡ Asks Want.Start 0 }
     ensures { Follows (glue_at setting.now) result (glue_at setting.now (GlueStage.Width stage)) (Quantity q) }
 {
-    match dim_quantity::after_quantity(setting, stage, q) {
+    match dimension_quantity::after_quantity(setting, stage, q) {
         Next::More(stage, back) => Next::More(GlueStage::Width(stage), back),
         Next::Done(width, back) => Next::More(GlueStage::Plus(width.amount, Looking::Blank), back),
         Next::Bad(error) => Next::Bad(error),
@@ -65,7 +65,7 @@ fn in_stretch(setting: &Setting, width: Sp, stage: DimStage, q: Quant) -> Next<G
     requires { dimension_at (with_infinite setting.now) stage [] ≡ Asks Want.Start 0 }
     ensures { Follows (glue_at setting.now) result (glue_at setting.now (GlueStage.Stretch width stage)) (Quantity q) }
 {
-    match dim_quantity::after_quantity(&setting.with_infinite(), stage, q) {
+    match dimension_quantity::after_quantity(&setting.with_infinite(), stage, q) {
         Next::More(stage, back) => Next::More(GlueStage::Stretch(width, stage), back),
         Next::Done(stretch, back) => {
             let stretched = Stretched::new(width, stretch);
@@ -85,7 +85,7 @@ fn in_shrink(
     requires { dimension_at (with_infinite setting.now) stage [] ≡ Asks Want.Start 0 }
     ensures { Follows (glue_at setting.now) result (glue_at setting.now (GlueStage.Shrink stretched stage)) (Quantity q) }
 {
-    match dim_quantity::after_quantity(&setting.with_infinite(), stage, q) {
+    match dimension_quantity::after_quantity(&setting.with_infinite(), stage, q) {
         Next::More(stage, back) => Next::More(GlueStage::Shrink(stretched, stage), back),
         Next::Done(shrink, back) => Next::Done(stretched.glue(shrink), back),
         Next::Bad(error) => Next::Bad(error),

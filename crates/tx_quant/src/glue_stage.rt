@@ -1,6 +1,6 @@
 //! The stages of glue.
 
-use crate::dim_stage::DimStage;
+use crate::dimension_stage::DimStage;
 use crate::looking::Looking;
 use crate::stretched::Stretched;
 use tx_num::Sp;

@@ -4,8 +4,8 @@ ghost use Rattle.tx_quant.specs.Items.{Token};
 ghost use Rattle.tx_quant.specs.Nexts.{Follows};
 ghost use Rattle.tx_quant.specs.GlueStates.{glue_at};
 
-use crate::dim_stage::DimStage;
-use crate::dim_token;
+use crate::dimension_stage::DimStage;
+use crate::dimension_token;
 use crate::glue_stage::GlueStage;
 use crate::keyword::KeySet;
 use crate::looking::{Looked, Looking, look};
@@ -46,7 +46,7 @@ fn begin(setting: &Setting, t: Tok) -> Next<GlueStage, GlueSpec>
 fn in_width(setting: &Setting, stage: DimStage, t: Tok) -> Next<GlueStage, GlueSpec>
     ensures { Follows (glue_at setting.now) result (glue_at setting.now (GlueStage.Width stage)) (Token t) }
 {
-    match dim_token::after(setting, stage, t) {
+    match dimension_token::after(setting, stage, t) {
         Next::More(stage, back) => Next::More(GlueStage::Width(stage), back),
         Next::Done(width, back) => Next::More(GlueStage::Plus(width.amount, Looking::Blank), back),
         Next::Bad(error) => Next::Bad(error),
@@ -71,7 +71,7 @@ fn in_plus(setting: &Setting, width: Sp, looking: Looking, t: Tok) -> Next<GlueS
 fn in_stretch(setting: &Setting, width: Sp, stage: DimStage, t: Tok) -> Next<GlueStage, GlueSpec>
     ensures { Follows (glue_at setting.now) result (glue_at setting.now (GlueStage.Stretch width stage)) (Token t) }
 {
-    match dim_token::after(&setting.with_infinite(), stage, t) {
+    match dimension_token::after(&setting.with_infinite(), stage, t) {
         Next::More(stage, back) => Next::More(GlueStage::Stretch(width, stage), back),
         Next::Done(stretch, back) => {
             let stretched = Stretched::new(width, stretch);
@@ -106,7 +106,7 @@ fn in_shrink(
 ) -> Next<GlueStage, GlueSpec>
     ensures { Follows (glue_at setting.now) result (glue_at setting.now (GlueStage.Shrink stretched stage)) (Token t) }
 {
-    match dim_token::after(&setting.with_infinite(), stage, t) {
+    match dimension_token::after(&setting.with_infinite(), stage, t) {
         Next::More(stage, back) => Next::More(GlueStage::Shrink(stretched, stage), back),
         Next::Done(shrink, back) => Next::Done(stretched.glue(shrink), back),
         Next::Bad(error) => Next::Bad(error),

@@ -4,10 +4,10 @@
 mod base;
 mod decimals;
 mod digits;
-mod dim_quantity;
-mod dim_stage;
-mod dim_token;
 mod dimension;
+mod dimension_quantity;
+mod dimension_stage;
+mod dimension_token;
 mod errors;
 pub mod examples;
 mod factor;
@@ -35,5 +35,7 @@ pub use glue::GlueScan;
 pub use keyword::{KeySet, Keyword};
 pub use number::NumScan;
 
+#[cfg(test)]
+mod dimension_tests;
 #[cfg(test)]
 mod tests;

@@ -8,8 +8,8 @@ ghost use Rattle.tx_quant.specs.Numbers.{signed as signed_of};
 ghost use Rattle.tx_quant.specs.Dimensions.{internal_factor as internal_factor_of, internal_of, unit_after, unsigned_dimension};
 ghost use Rattle.tx_quant.specs.DimensionStates.{dimension_at};
 
-use crate::dim_stage::DimStage;
-use crate::dim_token::{ended, missing_unit};
+use crate::dimension_stage::DimStage;
+use crate::dimension_token::{ended, missing_unit};
 use crate::errors::{INCOMPATIBLE_UNITS, MISSING_NUMBER};
 use crate::factor::Factor;
 use crate::internal::Internal;

@@ -1,6 +1,6 @@
 use Rattle.tx_quant.proofs.DimensionLemmas.{goes_on_at, unit_step}
 use Rattle.std.proofs.Common.{◌∙◌}
-use Rattle.tx_quant.proofs.dim_token.first_letter.Goals as goal
+use Rattle.tx_quant.proofs.dimension_token.first_letter.Goals as goal
 
 pub returns-in-Ok : goal.returns-in-Ok
 returns-in-Ok c =

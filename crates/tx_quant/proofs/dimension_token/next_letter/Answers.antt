@@ -2,7 +2,7 @@ use Rattle.std.proofs.Common.{◌∙◌}
 use Rattle.tx_quant.specs.Units.{due}
 use Rattle.tx_quant.specs.Dimensions.{after_word}
 use Rattle.tx_quant.proofs.DimensionLemmas.{goes_on_at, letter_step}
-use Rattle.tx_quant.proofs.dim_token.next_letter.Goals as goal
+use Rattle.tx_quant.proofs.dimension_token.next_letter.Goals as goal
 
 pub returns-in-Ok : goal.returns-in-Ok
 returns-in-Ok c =

@@ -1,5 +1,5 @@
 use Rattle.tx_quant.proofs.DimensionLemmas.{leads_alike, whole_end}
-use Rattle.tx_quant.proofs.dim_token.behind_digits.Goals as goal
+use Rattle.tx_quant.proofs.dimension_token.behind_digits.Goals as goal
 
 pub returns-else-is_point : goal.returns-else-is_point
 returns-else-is_point c =

@@ -1,7 +1,7 @@
-use Rattle.tx_quant.specs.declared.dim_stage.DimStage.TheVariants as stage
+use Rattle.tx_quant.specs.declared.dimension_stage.DimStage.TheVariants as stage
 use Rattle.tx_quant.specs.FractionStates.{decimals_in}
 use Rattle.tx_quant.proofs.DimensionLemmas.{goes_on_at, first_point}
-use Rattle.tx_quant.proofs.dim_token.first_digit.Goals as goal
+use Rattle.tx_quant.proofs.dimension_token.first_digit.Goals as goal
 
 pub returns-then-is_point : goal.returns-then-is_point
 returns-then-is_point c =

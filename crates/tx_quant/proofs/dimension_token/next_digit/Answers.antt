@@ -1,7 +1,7 @@
 use Rattle.std.proofs.Common.{◌+◌, ◌*◌, arith}
-use Rattle.tx_quant.specs.declared.dim_stage.DimStage.TheVariants as stage
+use Rattle.tx_quant.specs.declared.dimension_stage.DimStage.TheVariants as stage
 use Rattle.tx_quant.proofs.DimensionLemmas.{goes_on_at, whole_more}
-use Rattle.tx_quant.proofs.dim_token.next_digit.Goals as goal
+use Rattle.tx_quant.proofs.dimension_token.next_digit.Goals as goal
 
 pub returns-then-value : goal.returns-then-value
 returns-then-value c =

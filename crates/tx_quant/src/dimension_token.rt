@@ -9,7 +9,7 @@ ghost use Rattle.tx_quant.specs.DimensionStates.{Becomes, dimension_at, stepped}
 ghost use Rattle.tx_quant.specs.FractionStates.{decimals_in};
 
 use crate::decimals::Decimals;
-use crate::dim_stage::DimStage;
+use crate::dimension_stage::DimStage;
 use crate::errors::{
     DIMENSION_TOO_LARGE, MISSING_NUMBER, NO_MATH_UNIT, NO_UNIT, NUMBER_TOO_BIG, TOO_INFINITE,
 };
