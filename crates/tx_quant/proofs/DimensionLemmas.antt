@@ -1,7 +1,6 @@
 use Rattle.std.proofs.Common.{◌≡◌, ℕ, ◌+◌, ◌*◌, ◌<◌, ◌^◌, nat_lt, Bool, true, false, List, [], ◌∷◌, Option, Some, None, refl, sym, ◌∙◌, ap}
 use Rattle.std.proofs.lemmas.Bool.{lt-ltb}
 use Rattle.tx_tok.specs.declared.tok.Tok.{Tok}
-use Rattle.tx_num.specs.declared.quantities.Quant.{Quant}
 use Rattle.tx_quant.specs.declared.factor.Factor.{Factor}
 use Rattle.tx_quant.specs.declared.setting.Setting.{Setting}
 use Rattle.tx_quant.specs.declared.size.Size.{Size}
@@ -14,7 +13,7 @@ use Rattle.tx_quant.specs.declared.units.UnitStep.{UnitStep}
 use Rattle.tx_quant.specs.declared.units.UnitStep.TheVariants as step
 use Rattle.tx_quant.specs.declared.dimension_stage.DimStage.{DimStage}
 use Rattle.tx_quant.specs.declared.dimension_stage.DimStage.TheVariants as stage
-use Rattle.tx_quant.specs.Items.{Item, Token, Quantity, Reading, IsOpen, GoesOn, putting_back, is_space}
+use Rattle.tx_quant.specs.Items.{Item, Token, Reading, IsOpen, GoesOn, putting_back, is_space}
 use Rattle.tx_quant.specs.Behinds.{Behind, Leads}
 use Rattle.tx_quant.specs.Spelling.{Words, letter, going_on_with, spelled, spell}
 use Rattle.tx_quant.specs.Numbers.{digit}

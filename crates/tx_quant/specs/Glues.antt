@@ -12,7 +12,7 @@ use Rattle.tx_quant.specs.declared.word.Word.{Word}
 use Rattle.tx_quant.specs.declared.keyword.KeySet.{KeySet}
 use Rattle.tx_quant.specs.declared.keyword.KeySet.TheVariants as set
 use Rattle.tx_quant.specs.Errors.{incompatible_units}
-use Rattle.tx_quant.specs.Items.{Item, Token, Quantity, Letter, Move, Asks, Gives, Fails, Reading, is_space}
+use Rattle.tx_quant.specs.Items.{Item, Token, Quantity, Letter, Move, Asks, Gives, Fails, Reading}
 use Rattle.tx_quant.specs.Behinds.{and_then, after_putting_back}
 use Rattle.tx_quant.specs.Spelling.{spell, nonblank}
 use Rattle.tx_quant.specs.Keywords.{words_of}
