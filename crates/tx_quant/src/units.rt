@@ -1,8 +1,8 @@
 //! Units.
 
-ghost use Rattle.std.specs.Prelude.{◌≡◌, [], ◌∷◌};
+ghost use Rattle.std.specs.Prelude.{◌≡◌, ◌≢◌, [], ◌∷◌};
 ghost use Rattle.tx_quant.specs.Spelling.{going_on, going_on_with};
-ghost use Rattle.tx_quant.specs.Units.{unit_words, finite_words, lengths, left, words_after_factor, due};
+ghost use Rattle.tx_quant.specs.Units.{spelled_as, unit_words, finite_words, lengths, left, words_after_factor, due};
 
 use crate::setting::Setting;
 
@@ -158,21 +158,9 @@ fn go_on(begun: Begun, letter: u8) -> UnitStep
     ensures { going_on letter (due begun) ≡ left result }
 {
     match begun {
-        Begun::P => match letter {
-            b't' => UnitStep::Found(UnitWord::Of(Unit::Pt)),
-            b'c' => UnitStep::Found(UnitWord::Of(Unit::Pc)),
-            _ => UnitStep::Missing,
-        },
-        Begun::C => match letter {
-            b'm' => UnitStep::Found(UnitWord::Of(Unit::Cm)),
-            b'c' => UnitStep::Found(UnitWord::Of(Unit::Cc)),
-            _ => UnitStep::Missing,
-        },
-        Begun::E => match letter {
-            b'm' => UnitStep::Found(UnitWord::Of(Unit::Em)),
-            b'x' => UnitStep::Found(UnitWord::Of(Unit::Ex)),
-            _ => UnitStep::Missing,
-        },
+        Begun::P => either_letter(letter, (b't', Unit::Pt), (b'c', Unit::Pc)),
+        Begun::C => either_letter(letter, (b'm', Unit::Cm), (b'c', Unit::Cc)),
+        Begun::E => either_letter(letter, (b'm', Unit::Em), (b'x', Unit::Ex)),
         Begun::I => last_letter(letter, b'n', UnitWord::Of(Unit::In)),
         Begun::M => last_letter(letter, b'm', UnitWord::Of(Unit::Mm)),
         Begun::B => last_letter(letter, b'p', UnitWord::Of(Unit::Bp)),
@@ -204,5 +192,17 @@ fn last_letter(letter: u8, last: u8, word: UnitWord) -> UnitStep
         UnitStep::Found(word)
     } else {
         UnitStep::Missing
+    }
+}
+
+/// The last letter of one of two units.
+fn either_letter(letter: u8, one: (u8, Unit), other: (u8, Unit)) -> UnitStep
+    requires { one.0 ≢ other.0 }
+    ensures { going_on letter (spelled_as one.1 (one.0 ∷ []) ∷ spelled_as other.1 (other.0 ∷ []) ∷ []) ≡ left result }
+{
+    if letter == one.0 {
+        UnitStep::Found(UnitWord::Of(one.1))
+    } else {
+        last_letter(letter, other.0, UnitWord::Of(other.1))
     }
 }
