@@ -1,1 +1,3 @@
 pub mod SpellingLemmas
+pub mod DimensionLemmas
+pub mod GlueLemmas

@@ -9,10 +9,12 @@ use Rattle.tx_quant.specs.declared.part.Part.{Part}
 use Rattle.tx_quant.specs.declared.step.Step.{Step}
 use Rattle.tx_quant.specs.declared.step.Step.TheVariants as step
 use Rattle.tx_quant.specs.declared.keyword.Keyword.{Keyword}
-use Rattle.tx_quant.specs.declared.keyword.Stage.{Stage}
-use Rattle.tx_quant.specs.declared.keyword.Stage.TheVariants.{Blank, Within}
+use Rattle.tx_quant.specs.declared.looking.Looking.{Looking}
+use Rattle.tx_quant.specs.declared.looking.Looking.TheVariants.{Blank, Within}
+use Rattle.tx_quant.specs.declared.looking.Looked.{Looked}
+use Rattle.tx_quant.specs.declared.looking.Looked.TheVariants as looked
 use Rattle.tx_quant.specs.WordTexts.{text_of, place_of}
-use Rattle.tx_quant.specs.Items.{Asks, Gives, Reading}
+use Rattle.tx_quant.specs.Items.{Item, Asks, Gives, Reading}
 use Rattle.tx_quant.specs.Spelling.{Words, going_on_with, spell, nonblank}
 
 -- a word of which all letters are due
@@ -44,13 +46,25 @@ keyword set items = nonblank (Asks Expanded 0) (spell found missing (words_of se
 abbrev pub due_of : Part → Words Word
 due_of part = (part.word, drop part.taken (text_of part.word)) ∷ []
 
--- what a keyword that is being read says of later items
-abbrev pub keyword_at : KeySet → Stage → Reading ℕ
-keyword_at set Blank items = keyword set items
-keyword_at set (Within part) items = spell found missing (due_of part) part.taken items
+-- the look for a word of a set goes on, behind which `found` or `missing` reads on
+abbrev pub looking : {V : Type 0} → (Word → Reading V) → (ℕ → Reading V) → KeySet → Looking → Reading V
+looking found missing set Blank items = nonblank (Asks Expanded 0) (spell found missing (words_of set) 0) items
+looking found missing set (Within part) items = spell found missing (due_of part) part.taken items
+
+-- what an item makes of that look
+abbrev pub Looks : (V : Type 0) → Looked → KeySet → Looking → Item → Type 0
+Looks V (looked.On next) set look item =
+    (found : Word → Reading V) (missing : ℕ → Reading V) (items : List Item) →
+    looking found missing set look (item ∷ items) ≡ looking found missing set next items
+Looks V (looked.Found word) set look item =
+    (found : Word → Reading V) (missing : ℕ → Reading V) (items : List Item) →
+    looking found missing set look (item ∷ items) ≡ found word items
+Looks V (looked.Missing taken) set look item =
+    (found : Word → Reading V) (missing : ℕ → Reading V) (items : List Item) →
+    looking found missing set look (item ∷ items) ≡ missing taken items
 
 abbrev pub keyword_says : Keyword → Reading ℕ
-keyword_says k items = keyword_at k.words k.stage items
+keyword_says k items = looking found missing k.words k.stage items
 
 -- the one word that is begun, if there is one
 abbrev pub begun : Option Word → Words Word

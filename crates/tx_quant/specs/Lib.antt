@@ -8,3 +8,13 @@ pub mod Bases
 pub mod Nexts
 pub mod Numbers
 pub mod NumberStates
+pub mod Units
+pub mod Fractions
+pub mod FractionStates
+pub mod Sizes
+pub mod Behinds
+pub mod Factors
+pub mod Dimensions
+pub mod DimensionStates
+pub mod Glues
+pub mod GlueStates

@@ -16,6 +16,34 @@ pub(crate) const NUMBER_TOO_BIG: ErrorNo = ErrorNo {
     value: 0,
 };
 
+/// No unit.
+pub(crate) const NO_UNIT: ErrorNo = ErrorNo {
+    no: 11,
+    case: 0,
+    value: 0,
+};
+
+/// No unit in a math dimension.
+pub(crate) const NO_MATH_UNIT: ErrorNo = ErrorNo {
+    no: 11,
+    case: 1,
+    value: 0,
+};
+
+/// An infinite unit beyond `filll`.
+pub(crate) const TOO_INFINITE: ErrorNo = ErrorNo {
+    no: 11,
+    case: 2,
+    value: 0,
+};
+
+/// A dimension of 2^30 scaled points or more.
+pub(crate) const DIMENSION_TOO_LARGE: ErrorNo = ErrorNo {
+    no: 12,
+    case: 0,
+    value: 0,
+};
+
 /// Math glue where another quantity is due, or the reverse.
 pub(crate) const INCOMPATIBLE_UNITS: ErrorNo = ErrorNo {
     no: 13,

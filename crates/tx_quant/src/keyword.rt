@@ -2,14 +2,9 @@
 
 ghost use Rattle.std.specs.Prelude.{◌≡◌, List};
 ghost use Rattle.tx_quant.specs.Items.{Item, Token, Answers};
-ghost use Rattle.tx_quant.specs.Spelling.{going_on};
-ghost use Rattle.tx_quant.specs.Keywords.{keyword, keyword_says, words_of, begun};
-ghost use Rattle.tx_quant.specs.Spelling.{going_on_with};
+ghost use Rattle.tx_quant.specs.Keywords.{keyword, keyword_says};
 
-use crate::part::Part;
-use crate::step::{Step, next_letter};
-use crate::tokens::{is_space, letter};
-use crate::word::Word;
+use crate::looking::{Looked, Looking, look};
 use tx_num::Feed;
 use tx_tok::Tok;
 
@@ -33,20 +28,11 @@ pub enum KeySet {
     Rule,
 }
 
-/// How far the look for a keyword is.
-#[derive(Clone, Copy, Debug)]
-enum Stage {
-    /// Only spaces were taken.
-    Blank,
-    /// Letters of a word were taken.
-    Within(Part),
-}
-
 /// The look for one of a set of keywords, one token at a time (*TeX: The Program*, section 407).
 #[derive(Clone, Copy, Debug)]
 pub struct Keyword {
     words: KeySet,
-    stage: Stage,
+    stage: Looking,
 }
 
 impl Keyword {
@@ -56,7 +42,7 @@ impl Keyword {
     {
         Keyword {
             words,
-            stage: Stage::Blank,
+            stage: Looking::Blank,
         }
     }
 
@@ -67,87 +53,13 @@ impl Keyword {
     pub fn feed(&mut self, t: Tok) -> Feed<u8>
         ensures { Answers result (keyword_says self.old) (Token t) (keyword_says self.new) }
     {
-        match self.stage {
-            Stage::Blank => self.begin(t),
-            Stage::Within(part) => self.go_on(part, t),
-        }
-    }
-
-    /// The first letter, or a space before it.
-    fn begin(&mut self, t: Tok) -> Feed<u8>
-        requires { self.old.stage ≡ Stage.Blank }
-        ensures { Answers result (keyword_says self.old) (Token t) (keyword_says self.new) }
-    {
-        if is_space(t) {
-            return Feed::More(0);
-        }
-        match first_letter(self.words, letter(t)) {
-            Some(word) => {
-                self.stage = Stage::Within(Part::begun(word));
+        match look(self.words, self.stage, t) {
+            Looked::On(stage) => {
+                self.stage = stage;
                 Feed::More(0)
             }
-            None => Feed::Done(NO_WORD, 1),
+            Looked::Found(word) => Feed::Done(word.place(), 0),
+            Looked::Missing(taken) => Feed::Done(NO_WORD, taken),
         }
-    }
-
-    /// A letter within a word.
-    fn go_on(&mut self, part: Part, t: Tok) -> Feed<u8>
-        requires { self.old.stage ≡ Stage.Within part }
-        ensures { Answers result (keyword_says self.old) (Token t) (keyword_says self.new) }
-    {
-        match next_letter(part, letter(t)) {
-            Step::Found => Feed::Done(part.word.place(), 0),
-            Step::Due(more) => {
-                self.stage = Stage::Within(more);
-                Feed::More(0)
-            }
-            Step::Missing(taken) => Feed::Done(NO_WORD, taken),
-        }
-    }
-}
-
-/// The word of a set that begins with this letter.
-fn first_letter(words: KeySet, letter: Option<u8>) -> Option<Word>
-    ensures { going_on_with letter (words_of words) ≡ begun result }
-{
-    match letter {
-        Some(first) => word_with(words, first),
-        None => None,
-    }
-}
-
-/// The word of a set that begins with this letter.
-fn word_with(words: KeySet, first: u8) -> Option<Word>
-    ensures { going_on first (words_of words) ≡ begun result }
-{
-    match words {
-        KeySet::By => match first {
-            b'b' => Some(Word::By),
-            _ => None,
-        },
-        KeySet::Spec => match first {
-            b't' => Some(Word::To),
-            b's' => Some(Word::Spread),
-            _ => None,
-        },
-        KeySet::At => match first {
-            b'a' => Some(Word::At),
-            b's' => Some(Word::Scaled),
-            _ => None,
-        },
-        KeySet::Plus => match first {
-            b'p' => Some(Word::Plus),
-            _ => None,
-        },
-        KeySet::Minus => match first {
-            b'm' => Some(Word::Minus),
-            _ => None,
-        },
-        KeySet::Rule => match first {
-            b'w' => Some(Word::Width),
-            b'h' => Some(Word::Height),
-            b'd' => Some(Word::Depth),
-            _ => None,
-        },
     }
 }

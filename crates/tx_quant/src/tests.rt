@@ -5,7 +5,7 @@ use tx_num::{Feed, GlueSpec, Order, Quant, Sp, Want};
 use tx_tok::{Cat, Tok};
 
 /// A character with the category that it has at the start.
-fn token(byte: u8) -> Tok {
+pub(crate) fn token(byte: u8) -> Tok {
     if byte == b' ' {
         Tok::Char(Cat::Space, byte)
     } else if byte.is_ascii_alphabetic() {
