@@ -1,2 +1,5 @@
 pub mod TextLemmas
 pub mod ValueLemmas
+pub mod ProductLemmas
+pub mod ReadingLemmas
+pub mod StateLemmas

@@ -3,7 +3,8 @@ use Rattle.std.proofs.Common.{◌≡◌, Bool, true, false, cond, Option, Some, 
 use Rattle.std.specs.Prelude.{◌+ℤ◌, ◌*ℤ◌, neg_ℤ}
 use Rattle.tx_num.specs.declared.quantities.QuantKind.{QuantKind}
 use Rattle.tx_num.specs.declared.quantities.QuantKind.TheVariants as quant_kind
-use Rattle.tx_etex.specs.Expressions.{Amount, amount_of, amount_sum, amount_difference, amount_times, Tree, Quantity, Inner, Sum, Difference, Product, Quotient, is_in_range, within, combined, exact}
+use Rattle.tx_etex.specs.declared.amount.Amount.{Amount}
+use Rattle.tx_etex.specs.Expressions.{amount_of, amount_sum, amount_difference, amount_times, Tree, Quantity, Inner, Sum, Difference, Product, Quotient, is_in_range, within, combined, exact}
 use Rattle.tx_etex.specs.Laws.{HasNoQuotient, arithmetic, ValueIsArithmetic}
 
 kept : (b : Bool) (x y : Amount) → cond b (Some x) None ≡ Some y → x ≡ y

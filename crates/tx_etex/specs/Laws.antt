@@ -7,7 +7,8 @@ use Rattle.tx_tok.specs.declared.tok.Tok.{Tok}
 use Rattle.tx_tok.specs.declared.tok.Tok.TheVariants as tok
 use Rattle.tx_tok.specs.Tokens.{tokens_in}
 use Rattle.tx_num.specs.declared.quantities.QuantKind.{QuantKind}
-use Rattle.tx_etex.specs.Expressions.{Amount, amount_of, Tree, Quantity, Inner, Sum, Difference, Product, Quotient, value}
+use Rattle.tx_etex.specs.declared.amount.Amount.{Amount}
+use Rattle.tx_etex.specs.Expressions.{amount_of, Tree, Quantity, Inner, Sum, Difference, Product, Quotient, value}
 use Rattle.tx_etex.specs.Texts.{text_token, detokenized}
 
 -- a token's text, if it is a name, by the present categories and escape character

@@ -2,3 +2,6 @@ pub mod Texts
 pub mod Expressions
 pub mod Readings
 pub mod Laws
+pub mod Signs
+pub mod Values
+pub mod States

@@ -13,7 +13,8 @@ use Rattle.tx_num.specs.declared.quantities.Want.{Want}
 use Rattle.tx_num.specs.declared.quantities.Want.TheVariants as want
 use Rattle.tx_num.specs.declared.quantities.ErrorNo.{ErrorNo}
 use Rattle.tx_num.specs.declared.glue.GlueSpec.{GlueSpec}
-use Rattle.tx_etex.specs.Expressions.{Amount, Tree, Quantity, Inner, Sum, Difference, Product, Quotient, value}
+use Rattle.tx_etex.specs.declared.amount.Amount.{Amount}
+use Rattle.tx_etex.specs.Expressions.{Tree, Quantity, Inner, Sum, Difference, Product, Quotient, value}
 
 -- what an expression is given: a token, or a quantity with all of its tokens
 pub data Item : Type 0 where
