@@ -49,6 +49,12 @@ quant_of quant_kind.Dim a = quant.Dim a.width
 quant_of quant_kind.Glue a = quant.Glue (glue_of a)
 quant_of quant_kind.Mu a = quant.Mu (glue_of a)
 
+abbrev pub kind_of : Quant → QuantKind
+kind_of (quant.Int n) = quant_kind.Int
+kind_of (quant.Dim d) = quant_kind.Dim
+kind_of (quant.Glue g) = quant_kind.Glue
+kind_of (quant.Mu g) = quant_kind.Mu
+
 abbrev pub is_space : Tok → Bool
 is_space (tok.Char cat.Space b) = true
 is_space _ = false

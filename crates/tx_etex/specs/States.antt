@@ -1,5 +1,5 @@
 -- What an expression under way says of later items.
-use Rattle.std.specs.Prelude.{◌≡◌, if◌then◌else◌, List, [], ◌∷◌, reverse, Option, Some, None, IsTrue}
+use Rattle.std.specs.Prelude.{◌≡◌, ◌||◌, if◌then◌else◌, List, [], ◌∷◌, reverse, Option, Some, None, IsTrue}
 use Rattle.tx_tok.specs.declared.tok.Tok.{Tok}
 use Rattle.tx_num.specs.declared.quantities.Quant.{Quant}
 use Rattle.tx_num.specs.declared.quantities.QuantKind.{QuantKind}
@@ -49,13 +49,18 @@ Leads (feed.Done q back) said new = (items : List Item) → said items ≡ Gives
 Leads (feed.Bad error) said new = (items : List Item) → said items ≡ Fails error
 Leads feed.Memory said new = ⊥
 
--- a parenthesis opens
-abbrev pub Opens : Item → Type 0
-Opens (Token t) = IsTrue (is_other 40 t)
-Opens (Factor q) = ⊥
+-- a token that may come: where a factor is due, a space or a parenthesis that opens
+abbrev pub MayCome : Move → Tok → Type 0
+MayCome (Asks (want.Factor kind)) t = IsTrue (is_space t || is_other 40 t)
+MayCome _ t = Unit {0}
+
+-- a parenthesis opens, where a factor is due
+abbrev pub Opens : Move → Item → Type 0
+Opens (Asks (want.Factor kind)) (Token t) = IsTrue (is_other 40 t)
+Opens _ item = ⊥
 
 -- An answer to an item is what `old` says of later items after this one. Memory is wanting only where a
 -- parenthesis opens, and then all is as before.
 abbrev pub Answers : Feed Quant → (List Item → Move) → Item → (List Item → Move) → Type 0
-Answers feed.Memory old item new = Opens item × ((items : List Item) → new items ≡ old items)
+Answers feed.Memory old item new = Opens (old []) item × ((items : List Item) → new items ≡ old items)
 Answers answer old item new = Leads answer (λ items. old (item ∷ items)) new

@@ -1,9 +1,9 @@
 //! Expressions.
 
 ghost use Rattle.std.specs.Prelude.{◌≡◌, [], List, IfSome, reverse};
-ghost use Rattle.tx_etex.specs.Readings.{Item, Token, Factor, Asks, expression};
+ghost use Rattle.tx_etex.specs.Readings.{Item, Token, Factor, Asks, expression, kind_of};
 ghost use Rattle.tx_etex.specs.Signs.{IsInRange};
-ghost use Rattle.tx_etex.specs.States.{Answers, Leads, ended, says, says_at};
+ghost use Rattle.tx_etex.specs.States.{Answers, Leads, MayCome, ended, says, says_at};
 
 use crate::amount::{Amount, within};
 use crate::level::Level;
@@ -13,14 +13,14 @@ use tx_num::{ErrorNo, Feed, Quant, QuantKind, Want};
 use tx_tok::Tok;
 
 /// A `(` without its `)`.
-const MISSING_PARENTHESIS: ErrorNo = ErrorNo {
+pub(crate) const MISSING_PARENTHESIS: ErrorNo = ErrorNo {
     no: 7,
     case: 0,
     value: 0,
 };
 
 /// A value that is out of range, or a divisor that is 0.
-const OVERFLOW: ErrorNo = ErrorNo {
+pub(crate) const OVERFLOW: ErrorNo = ErrorNo {
     no: 14,
     case: 0,
     value: 0,
@@ -72,6 +72,7 @@ impl ExprScan {
     /// the whole expression, where a value in it was out of range or a divisor was 0. Memory may be
     /// wanting at a `(`, and then all is as before. No call may follow another answer than More or Memory.
     pub fn feed(&mut self, t: Tok) -> Feed<Quant>
+        requires { MayCome (says self.old []) t }
         ensures { Answers result (says self.old) (Token t) (says self.new) }
     {
         match self.stage {
@@ -82,6 +83,7 @@ impl ExprScan {
 
     /// Takes a quantity with all of its tokens, where `wants` says that a factor of its kind is due.
     pub fn quantity(&mut self, q: Quant) -> Feed<Quant>
+        requires { says self.old [] ≡ Asks (Want.Factor (kind_of q)) }
         ensures { Answers result (says self.old) (Factor q) (says self.new) }
     {
         if let Stage::Due = self.stage {
