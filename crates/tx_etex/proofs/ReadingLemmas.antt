@@ -9,8 +9,8 @@ use Rattle.tx_etex.specs.declared.sums.Sign.TheVariants as sign
 use Rattle.tx_etex.specs.declared.level.Scale.{Scale}
 use Rattle.tx_etex.specs.declared.level.Scale.TheVariants as scale
 use Rattle.tx_etex.specs.declared.level.Level.{Level as State}
-use Rattle.tx_etex.specs.declared.expr.Stage.{Stage}
-use Rattle.tx_etex.specs.declared.expr.Stage.TheVariants as stage
+use Rattle.tx_etex.specs.declared.expression.Stage.{Stage}
+use Rattle.tx_etex.specs.declared.expression.Stage.TheVariants as stage
 use Rattle.tx_etex.specs.Expressions.{amount_of, Tree, Quantity, Inner, Sum, Difference, Product, Quotient, within, dividend, exact, value}
 use Rattle.tx_etex.specs.Readings.{Item, Token, Factor, Move, Asks, Fails, missing_parenthesis, outcome, is_space, is_other, Level, level_begun, whole, next_term, next_factor, behind_operator, reads, expression}
 use Rattle.tx_etex.specs.Values.{scaled, added, total, due_in, due, begun, divided, behind_sign, behind_star, behind_slash, behind}

@@ -6,7 +6,7 @@ use Rattle.tx_num.specs.declared.quantities.Feed.{Feed}
 use Rattle.tx_num.specs.declared.quantities.Feed.TheVariants as feed
 use Rattle.tx_etex.specs.declared.amount.Amount.{Amount}
 use Rattle.tx_etex.specs.declared.level.Level.{Level}
-use Rattle.tx_etex.specs.declared.expr.Stage.TheVariants as stage
+use Rattle.tx_etex.specs.declared.expression.Stage.TheVariants as stage
 use Rattle.tx_etex.specs.Expressions.{within}
 use Rattle.tx_etex.specs.Readings.{Item, Token, Move, is_space}
 use Rattle.tx_etex.specs.Values.{total, behind}

@@ -1,24 +1,9 @@
--- Sums and differences, and bounds of amounts.
-use Rattle.std.specs.Prelude.{ℕ, ◌<◌, ◌^◌, ℤ, ◌+ℤ◌, neg_ℤ, unsigned_abs}
-use Rattle.tx_num.specs.declared.quantities.QuantKind.{QuantKind}
-use Rattle.tx_etex.specs.declared.amount.Amount.{Amount}
+-- Sums and differences.
+use Rattle.std.specs.Prelude.{ℤ, ◌+ℤ◌, neg_ℤ}
 use Rattle.tx_etex.specs.declared.sums.Sign.{Sign}
 use Rattle.tx_etex.specs.declared.sums.Sign.TheVariants as sign
-use Rattle.tx_etex.specs.Expressions.{width_limit}
 
 -- a sum, or a difference
 abbrev pub signed_sum : Sign → ℤ → ℤ → ℤ
 signed_sum sign.Plus x y = x +ℤ y
 signed_sum sign.Minus x y = x +ℤ neg_ℤ y
-
--- each part is below a limit in absolute value
-pub record IsBelow (limit : ℕ) (a : Amount) : Type 0 where
-  pub width : unsigned_abs a.width < limit
-  pub stretch : unsigned_abs a.stretch.size < limit
-  pub shrink : unsigned_abs a.shrink.size < limit
-
--- each part is in the range of a kind
-pub record IsInRange (kind : QuantKind) (a : Amount) : Type 0 where
-  pub width : unsigned_abs a.width < width_limit kind
-  pub stretch : unsigned_abs a.stretch.size < 2 ^ 30
-  pub shrink : unsigned_abs a.shrink.size < 2 ^ 30

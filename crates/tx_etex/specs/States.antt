@@ -8,9 +8,9 @@ use Rattle.tx_num.specs.declared.quantities.Feed.{Feed}
 use Rattle.tx_num.specs.declared.quantities.Feed.TheVariants as feed
 use Rattle.tx_etex.specs.declared.amount.Amount.{Amount}
 use Rattle.tx_etex.specs.declared.level.Level.{Level}
-use Rattle.tx_etex.specs.declared.expr.Stage.{Stage}
-use Rattle.tx_etex.specs.declared.expr.Stage.TheVariants as stage
-use Rattle.tx_etex.specs.declared.expr.ExprScan.{ExprScan}
+use Rattle.tx_etex.specs.declared.expression.Stage.{Stage}
+use Rattle.tx_etex.specs.declared.expression.Stage.TheVariants as stage
+use Rattle.tx_etex.specs.declared.expression.ExprScan.{ExprScan}
 use Rattle.tx_etex.specs.Expressions.{amount_of, within}
 use Rattle.tx_etex.specs.Readings.{Item, Token, Factor, Move, Asks, Gives, Fails, missing_parenthesis, outcome, is_space, is_other}
 use Rattle.tx_etex.specs.Values.{begun, due, total, behind}

@@ -4,7 +4,7 @@ ghost use Rattle.std.specs.Prelude.{◌≡◌, ◌≤◌, ◌^◌, IfSome, Some}
 ghost use Rattle.tx_etex.specs.Expressions.{amount_of, width_limit as width_limit_of, within as within_range};
 ghost use Rattle.tx_num.specs.Ranges.{IsDimension};
 ghost use Rattle.tx_etex.specs.Readings.{glue_of, quant_of};
-ghost use Rattle.tx_etex.specs.Signs.{IsBelow, IsInRange};
+ghost use Rattle.tx_etex.specs.Bounds.{IsBelow, IsInRange};
 
 use tx_num::{GlueSpec, Order, Quant, QuantKind, Sp};
 

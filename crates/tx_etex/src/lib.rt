@@ -3,7 +3,7 @@
 
 mod amount;
 pub mod examples;
-mod expr;
+mod expression;
 pub mod laws;
 mod level;
 mod products;
@@ -11,7 +11,7 @@ mod sums;
 mod texts;
 mod tokens;
 
-pub use expr::ExprScan;
+pub use expression::ExprScan;
 pub use texts::detokenize;
 
 #[cfg(test)]

@@ -3,7 +3,7 @@
 ghost use Rattle.std.specs.Prelude.{◌≡◌, ◌<◌, ◌^◌, ◌*ℤ◌, unsigned_abs, IfSome, Some};
 ghost use Rattle.tx_num.specs.Quotients.{nearest as nearest_number, rounded_quotient as rounded};
 ghost use Rattle.tx_etex.specs.Expressions.{amount_times, quotient as quotient_of, within as within_range};
-ghost use Rattle.tx_etex.specs.Signs.{IsBelow};
+ghost use Rattle.tx_etex.specs.Bounds.{IsBelow};
 ghost use Rattle.tx_etex.specs.Values.{product as product_of};
 
 use crate::amount::{Amount, Flex, within};

@@ -2,7 +2,8 @@
 
 ghost use Rattle.std.specs.Prelude.{◌≡◌, ◌<◌, ◌≤◌, ◌^◌, unsigned_abs};
 ghost use Rattle.tx_etex.specs.Expressions.{amount_by, combined as combined_amounts, flex_by, higher_or_both, normal as normal_flex, rank as rank_of, within as within_range};
-ghost use Rattle.tx_etex.specs.Signs.{IsBelow, signed_sum as signed_sum_of};
+ghost use Rattle.tx_etex.specs.Bounds.{IsBelow};
+ghost use Rattle.tx_etex.specs.Signs.{signed_sum as signed_sum_of};
 
 use crate::amount::{Amount, Flex, within};
 use tx_num::{Order, QuantKind};

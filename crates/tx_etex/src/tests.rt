@@ -1,7 +1,7 @@
 //! Worked values.
 
 use super::*;
-use crate::expr::{MISSING_PARENTHESIS, OVERFLOW};
+use crate::expression::{MISSING_PARENTHESIS, OVERFLOW};
 use std::alloc::Global;
 use std::test::Fail;
 use tx_bytes::Bytes;

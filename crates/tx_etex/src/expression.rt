@@ -2,7 +2,7 @@
 
 ghost use Rattle.std.specs.Prelude.{◌≡◌, [], List, IfSome, reverse};
 ghost use Rattle.tx_etex.specs.Readings.{Item, Token, Factor, Asks, expression, kind_of};
-ghost use Rattle.tx_etex.specs.Signs.{IsInRange};
+ghost use Rattle.tx_etex.specs.Bounds.{IsInRange};
 ghost use Rattle.tx_etex.specs.States.{Answers, Leads, MayCome, ended, says, says_at};
 
 use crate::amount::{Amount, within};
@@ -44,7 +44,7 @@ pub struct ExprScan {
 }
 
 impl ExprScan {
-    /// An expression of this kind, of which nothing was taken.
+    /// An expression of this kind, of which nothing was taken. It takes no memory yet.
     pub fn new(alloc: Global, kind: QuantKind) -> Self
         ensures { (items : List Item) → says result items ≡ expression kind items }
     {
@@ -55,7 +55,8 @@ impl ExprScan {
         }
     }
 
-    /// What is to come: a factor of a kind, or an expanded token behind a factor.
+    /// What is to come: a factor of a kind, or an expanded token behind a factor. A factor behind `*` or
+    /// `/` is an integer.
     pub fn wants(&self) -> Want
         ensures { says self.now [] ≡ Asks result }
     {
@@ -70,7 +71,8 @@ impl ExprScan {
     /// spaces are used, and the first token that is no operator ends the expression; it is put back. The
     /// errors are 7 where another token than `)` ends an expression in parentheses, and 14 at the end of
     /// the whole expression, where a value in it was out of range or a divisor was 0. Memory may be
-    /// wanting at a `(`, and then all is as before. No call may follow another answer than More or Memory.
+    /// wanting at a `(`, and then all is as before. No call may follow another answer than More or Memory
+    /// (e-TeX manual).
     pub fn feed(&mut self, t: Tok) -> Feed<Quant>
         requires { MayCome (says self.old []) t }
         ensures { Answers result (says self.old) (Token t) (says self.new) }
@@ -81,7 +83,8 @@ impl ExprScan {
         }
     }
 
-    /// Takes a quantity with all of its tokens, where `wants` says that a factor of its kind is due.
+    /// Takes a quantity with all of its tokens, where `wants` says that a factor of its kind is due. The
+    /// answer is More.
     pub fn quantity(&mut self, q: Quant) -> Feed<Quant>
         requires { says self.old [] ≡ Asks (Want.Factor (kind_of q)) }
         ensures { Answers result (says self.old) (Factor q) (says self.new) }

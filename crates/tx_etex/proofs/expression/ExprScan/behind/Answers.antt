@@ -3,7 +3,7 @@ use Rattle.tx_etex.specs.Readings.{Token, is_space}
 use Rattle.tx_etex.specs.Values.{behind}
 use Rattle.tx_etex.specs.States.{ended, says, says_at}
 use Rattle.tx_etex.proofs.StateLemmas.{answers-from_leads, says_at-end}
-use Rattle.tx_etex.proofs.expr.ExprScan.behind.Goals as goal
+use Rattle.tx_etex.proofs.expression.ExprScan.behind.Goals as goal
 
 pub returns-in-None : goal.returns-in-None
 returns-in-None c =
