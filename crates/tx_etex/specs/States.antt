@@ -42,6 +42,11 @@ says_at level outer (stage.Behind f) (Token t ∷ items) =
 abbrev pub says : ExprScan → List Item → Move
 says scan items = says_at scan.level (reverse scan.outer.items) scan.stage items
 
+-- the same, where the expression that is read ends with this value at this token
+abbrev pub says_ended : ExprScan → Option Amount → Tok → List Item → Move
+says_ended scan value t items =
+    ended scan.level.kind (reverse scan.outer.items) value t (λ o others s. says_at o others s items)
+
 -- An answer is what is said of all later items, whatever they are: an outcome, or what `new` says of them.
 abbrev pub Leads : Feed Quant → (List Item → Move) → (List Item → Move) → Type 0
 Leads (feed.More back) said new = (back ≡ 0) × ((items : List Item) → said items ≡ new items)

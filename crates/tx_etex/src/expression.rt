@@ -1,9 +1,9 @@
 //! Expressions.
 
-ghost use Rattle.std.specs.Prelude.{◌≡◌, [], List, IfSome, reverse};
+ghost use Rattle.std.specs.Prelude.{◌≡◌, [], List, IfSome};
 ghost use Rattle.tx_etex.specs.Readings.{Item, Token, Factor, Asks, expression, kind_of};
 ghost use Rattle.tx_etex.specs.Bounds.{IsInRange};
-ghost use Rattle.tx_etex.specs.States.{Answers, Leads, MayCome, ended, says, says_at};
+ghost use Rattle.tx_etex.specs.States.{Answers, Leads, MayCome, says, says_ended};
 
 use crate::amount::{Amount, within};
 use crate::level::Level;
@@ -136,7 +136,7 @@ impl ExprScan {
     /// A token that ends an expression with this value.
     fn end(&mut self, value: Option<Amount>, t: Tok) -> Feed<Quant>
         requires { IfSome value (IsInRange self.old.level.kind) }
-        ensures { Leads result (λ items. ended self.old.level.kind (reverse self.old.outer.items) value t (λ level outer stage. says_at level outer stage items)) (says self.new) }
+        ensures { Leads result (says_ended self.old value t) (says self.new) }
     {
         match self.outer.pop() {
             Some(level) => {

@@ -133,9 +133,9 @@ impl Level {
     {
         let term = match self.term {
             Scale::Times(a) => Scale::TimesOver(a, factor),
-            Scale::Alone | Scale::Over(_) | Scale::TimesOver(_, _) => Scale::Over(self.scaled(
-                factor,
-            )),
+            Scale::Alone | Scale::Over(_) | Scale::TimesOver(_, _) => {
+                Scale::Over(self.scaled(factor))
+            }
         };
         Level {
             kind: self.kind,
