@@ -3,3 +3,4 @@ pub mod ValueLemmas
 pub mod ProductLemmas
 pub mod ReadingLemmas
 pub mod StateLemmas
+pub mod RigidLemmas
