@@ -3,7 +3,8 @@ use Rattle.std.proofs.Common.{◌≡◌, Bool, true, false, cond, Option, Some, 
 use Rattle.std.specs.Prelude.{◌+ℤ◌, ◌*ℤ◌, neg_ℤ}
 use Rattle.tx_num.specs.declared.quantities.QuantKind.{QuantKind}
 use Rattle.tx_num.specs.declared.quantities.QuantKind.TheVariants as quant_kind
-use Rattle.tx_etex.specs.Expressions.{Amount, amount_of, amount_sum, amount_difference, amount_times, Tree, Quantity, Inner, Sum, Difference, Product, Quotient, is_in_range, within, combined, exact}
+use Rattle.tx_etex.specs.declared.amount.Amount.{Amount}
+use Rattle.tx_etex.specs.Expressions.{amount_of, amount_sum, amount_difference, amount_times, Tree, Quantity, Inner, Sum, Difference, Product, Quotient, is_in_range, within, combined, exact}
 use Rattle.tx_etex.specs.Laws.{HasNoQuotient, arithmetic, ValueIsArithmetic}
 
 kept : (b : Bool) (x y : Amount) → cond b (Some x) None ≡ Some y → x ≡ y
@@ -11,19 +12,19 @@ kept true x y e = cc
 kept false x y e = cc
 
 -- what is in range is the exact amount
-within-some : (kind : QuantKind) (x : Option Amount) (a : Amount) → within kind x ≡ Some a → x ≡ Some a
+pub within-some : (kind : QuantKind) (x : Option Amount) (a : Amount) → within kind x ≡ Some a → x ≡ Some a
 within-some kind None a e = e
 within-some kind (Some b) a e = ap (λ x. Some x) (kept (is_in_range kind b) b a e)
 
 -- both operands have amounts
-record Operands (f : Amount → Amount → Amount) (x y : Option Amount) (r : Amount) : Type 0 where
-  a : Amount
-  b : Amount
-  left : x ≡ Some a
-  right : y ≡ Some b
-  is : r ≡ f a b
+pub record Operands (f : Amount → Amount → Amount) (x y : Option Amount) (r : Amount) : Type 0 where
+  pub a : Amount
+  pub b : Amount
+  pub left : x ≡ Some a
+  pub right : y ≡ Some b
+  pub is : r ≡ f a b
 
-operands : (f : Amount → Amount → Amount) (x y : Option Amount) (r : Amount) →
+pub operands : (f : Amount → Amount → Amount) (x y : Option Amount) (r : Amount) →
     combined f x y ≡ Some r → Operands f x y r
 operands f None y r e = cc
 operands f (Some a) None r e = cc

@@ -7,17 +7,8 @@ use Rattle.tx_num.specs.declared.quantities.Quant.TheVariants as quant
 use Rattle.tx_num.specs.declared.quantities.QuantKind.{QuantKind}
 use Rattle.tx_num.specs.declared.quantities.QuantKind.TheVariants as quant_kind
 use Rattle.tx_num.specs.Quotients.{rounded_quotient}
-
--- what glue can stretch, or shrink
-pub record Flex : Type 0 where
-  pub size : ℤ
-  pub order : Order
-
--- what a quantity amounts to: only glue can stretch and shrink
-pub record Amount : Type 0 where
-  pub width : ℤ
-  pub stretch : Flex
-  pub shrink : Flex
+use Rattle.tx_etex.specs.declared.amount.Amount.{Amount}
+use Rattle.tx_etex.specs.declared.amount.Flex.{Flex}
 
 abbrev pub rigid : ℤ → Amount
 rigid width = record {
@@ -97,10 +88,13 @@ abbrev pub amount_times : Amount → Amount → Amount
 amount_times a n = each (λ z. z *ℤ n.width) a
 
 -- an integer is below 2^31 in absolute value, any other part below 2^30
+abbrev pub width_limit : QuantKind → ℕ
+width_limit quant_kind.Int = 2 ^ 31
+width_limit _ = 2 ^ 30
+
 abbrev pub is_in_range : QuantKind → Amount → Bool
-is_in_range quant_kind.Int a = nat_lt (unsigned_abs a.width) (2 ^ 31)
-is_in_range _ a =
-    nat_lt (unsigned_abs a.width) (2 ^ 30) && nat_lt (unsigned_abs a.stretch.size) (2 ^ 30)
+is_in_range kind a =
+    nat_lt (unsigned_abs a.width) (width_limit kind) && nat_lt (unsigned_abs a.stretch.size) (2 ^ 30)
     && nat_lt (unsigned_abs a.shrink.size) (2 ^ 30)
 
 -- the amount, where it is in range

@@ -7,7 +7,10 @@ use Rattle.tx_tok.specs.declared.tok.Tok.{Tok}
 use Rattle.tx_tok.specs.declared.tok.Tok.TheVariants as tok
 use Rattle.tx_tok.specs.Tokens.{tokens_in}
 use Rattle.tx_num.specs.declared.quantities.QuantKind.{QuantKind}
-use Rattle.tx_etex.specs.Expressions.{Amount, amount_of, Tree, Quantity, Inner, Sum, Difference, Product, Quotient, value}
+use Rattle.tx_num.specs.declared.quantities.QuantKind.TheVariants as quant_kind
+use Rattle.tx_etex.specs.declared.amount.Amount.{Amount}
+use Rattle.tx_etex.specs.Expressions.{amount_of, Tree, Quantity, Inner, Sum, Difference, Product, Quotient, rigid, exact, value}
+use Rattle.tx_etex.specs.Readings.{kind_of}
 use Rattle.tx_etex.specs.Texts.{text_token, detokenized}
 
 -- a token's text, if it is a name, by the present categories and escape character
@@ -51,3 +54,17 @@ arithmetic (Quotient a b) = pos 0
 abbrev pub ValueIsArithmetic : Type 0
 ValueIsArithmetic =
     (kind : QuantKind) (t : Tree) (a : Amount) → HasNoQuotient t → value kind t ≡ Some a → a.width ≡ arithmetic t
+
+-- the tree's quantities are of the kind of the whole, but what is multiplied with or divided by is an integer
+abbrev pub IsOfKind : QuantKind → Tree → Type 0
+IsOfKind kind (Quantity q) = kind_of q ≡ kind
+IsOfKind kind (Inner t) = IsOfKind kind t
+IsOfKind kind (Sum a b) = IsOfKind kind a × IsOfKind kind b
+IsOfKind kind (Difference a b) = IsOfKind kind a × IsOfKind kind b
+IsOfKind kind (Product a b) = IsOfKind kind a × IsOfKind quant_kind.Int b
+IsOfKind kind (Quotient a b) = IsOfKind kind a × IsOfKind quant_kind.Int b
+
+-- an expression of integers never stretches or shrinks
+abbrev pub IntegersAreRigid : Type 0
+IntegersAreRigid =
+    (t : Tree) (a : Amount) → IsOfKind quant_kind.Int t → exact quant_kind.Int t ≡ Some a → a ≡ rigid a.width

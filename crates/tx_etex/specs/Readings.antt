@@ -13,7 +13,8 @@ use Rattle.tx_num.specs.declared.quantities.Want.{Want}
 use Rattle.tx_num.specs.declared.quantities.Want.TheVariants as want
 use Rattle.tx_num.specs.declared.quantities.ErrorNo.{ErrorNo}
 use Rattle.tx_num.specs.declared.glue.GlueSpec.{GlueSpec}
-use Rattle.tx_etex.specs.Expressions.{Amount, Tree, Quantity, Inner, Sum, Difference, Product, Quotient, value}
+use Rattle.tx_etex.specs.declared.amount.Amount.{Amount}
+use Rattle.tx_etex.specs.Expressions.{Tree, Quantity, Inner, Sum, Difference, Product, Quotient, value}
 
 -- what an expression is given: a token, or a quantity with all of its tokens
 pub data Item : Type 0 where
@@ -47,6 +48,12 @@ quant_of quant_kind.Int a = quant.Int a.width
 quant_of quant_kind.Dim a = quant.Dim a.width
 quant_of quant_kind.Glue a = quant.Glue (glue_of a)
 quant_of quant_kind.Mu a = quant.Mu (glue_of a)
+
+abbrev pub kind_of : Quant → QuantKind
+kind_of (quant.Int n) = quant_kind.Int
+kind_of (quant.Dim d) = quant_kind.Dim
+kind_of (quant.Glue g) = quant_kind.Glue
+kind_of (quant.Mu g) = quant_kind.Mu
 
 abbrev pub is_space : Tok → Bool
 is_space (tok.Char cat.Space b) = true
