@@ -1,0 +1,4 @@
+pub mod Addresses
+pub mod Meanings
+pub mod Tables
+pub mod Steps
