@@ -1,5 +1,5 @@
 -- What the changes of a table do.
-use Rattle.std.specs.Prelude.{◌≡◌, Bool, List, [], ◌∷◌, Option, None, Some, is_some, IsSome, option_and_then, ⊤, if◌then◌else◌}
+use Rattle.std.specs.Prelude.{◌≡◌, Bool, List, [], ◌∷◌, Option, None, Some, is_some, IsSome, option_and_then, if◌then◌else◌}
 use Rattle.tx_eqtb.specs.declared.addr.Addr.{Addr}
 use Rattle.tx_eqtb.specs.declared.meaning.Meaning.{Meaning}
 use Rattle.tx_eqtb.specs.declared.meaning.Before.{Before}
@@ -41,13 +41,6 @@ module _ {B : Type 0} where
   moved old.Kept = []
   moved (old.Moved m) = m ∷ []
 
-  -- `old` is an answer for an address of which the journal says this
-  abbrev pub Answered : Option (Before B) → Old B → Type 0
-  Answered (Some was.Frozen) old.Frozen = ⊤
-  Answered (Some (was.Kept m)) old.Kept = ⊤
-  Answered (Some b) (old.Moved m) = ⊤
-  Answered _ _ = ⊥
-
   -- the meaning that an address has again once `old` is put back, where it had the first before the region
   abbrev pub meaning_back : Meaning B → Old B → Meaning B
   meaning_back first old.Frozen = first
@@ -68,6 +61,20 @@ module _ {B : Type 0} where
   abbrev pub note_back : Option (Before B) → Old B → Option (Before B)
   note_back noted (old.Moved m) = noted
   note_back noted _ = None
+
+  -- `old` is an answer for an address of which the journal says this
+  abbrev pub Answered : Option (Before B) → Old B → Type 0
+  Answered noted old.Frozen = noted ≡ Some was.Frozen
+  Answered noted old.Kept = IsSome (option_and_then entry_before noted)
+  Answered noted (old.Moved m) = IsSome noted
+
+  -- where `set` took one table to the other and answered `old`, putting `old` back gives what was there
+  abbrev pub GoesBack : Table B → Addr → Old B → Table B → Type 0
+  GoesBack t at old u =
+      Answered (noted u at) old
+      × (note_back (noted u at) old ≡ noted t at)
+      × (entry_back (noted u at) old ≡ entry t at)
+      × ((frozen : Map B) → meaning_back (before frozen t at) old ≡ now frozen t at)
 
   -- what is left of a journal says what it said
   abbrev pub IsLeftOf : List (Addr × Before B) → List (Addr × Before B) → Type 0

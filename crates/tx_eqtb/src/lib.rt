@@ -2,6 +2,7 @@
 #![tactic(auto)]
 
 mod addr;
+pub mod examples;
 mod frozen;
 mod maps;
 mod meaning;
@@ -12,3 +13,6 @@ pub use addr::{Addr, AddrKind};
 pub use frozen::Frozen;
 pub use meaning::{Entries, Meaning, Old, RegKind};
 pub use overlay::Overlay;
+
+#[cfg(test)]
+mod tests;

@@ -7,7 +7,7 @@ ghost use Rattle.tx_eqtb.specs.declared.addr.Addr.{Addr};
 ghost use Rattle.tx_eqtb.specs.Addresses.{entry_at, update};
 ghost use Rattle.tx_eqtb.specs.Meanings.{Map, meanings};
 ghost use Rattle.tx_eqtb.specs.Tables.{nothing_set, entry, noted, now, before, held, in_note, kept, SameCounts};
-ghost use Rattle.tx_eqtb.specs.Steps.{Sets, KeepsNow, KeepsBefore, answer, note, moved, Answered, meaning_back, entry_back, note_back, entry_before, IsLeftOf, where_noted};
+ghost use Rattle.tx_eqtb.specs.Steps.{Sets, KeepsNow, KeepsBefore, answer, note, moved, Answered, GoesBack, meaning_back, entry_back, note_back, entry_before, IsLeftOf, where_noted};
 
 use crate::addr::Addr;
 use crate::frozen::Frozen;
@@ -55,6 +55,7 @@ impl<B> Overlay<B> {
         ensures entries { OnOk result ((q : Addr) → entry self.new q ≡ update (entry self.old) at (Some m) q) }
         ensures journal { OnOk result ((q : Addr) → noted self.new q ≡ update (noted self.old) at (Some (note (noted self.old at) (entry self.old at))) q) }
         ensures held { IfOk result (λ old. SameCounts (m ∷ held self.old) (moved old ++ held self.new)) }
+        ensures goes_back { IfOk result (λ old. GoesBack self.old at old self.new) }
         ensures handed_back { IfErr result (λ back. back ≡ m) }
         ensures unchanged { OnErr result (self.new ≡ self.old) }
     {
