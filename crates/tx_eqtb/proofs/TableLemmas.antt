@@ -1,17 +1,14 @@
 -- What a change of a table does to the map now and to the map before the region.
-use Rattle.std.proofs.Common.{◌≡◌, Bool, true, false, List, Option, None, Some, is_some, IsSome, unwrap_or, option_and_then, if◌then◌else◌, refl, sym, ap, subst, ◌∙◌, true≢false}
+use Rattle.std.proofs.Common.{◌≡◌, Bool, true, false, List, Option, None, Some, is_some, IsSome, unwrap_or, if◌then◌else◌, refl, sym, ap, ◌∙◌, true≢false}
 use Rattle.std.specs.Option.{option_map_or}
 use Rattle.tx_eqtb.specs.declared.addr.Addr.{Addr}
 use Rattle.tx_eqtb.specs.declared.meaning.Meaning.{Meaning}
 use Rattle.tx_eqtb.specs.declared.meaning.Before.{Before}
 use Rattle.tx_eqtb.specs.declared.meaning.Before.TheVariants as was
-use Rattle.tx_eqtb.specs.declared.meaning.Old.{Old}
-use Rattle.tx_eqtb.specs.declared.meaning.Old.TheVariants as old
-use Rattle.tx_eqtb.specs.contracts.addr.AddrEq.TheImpl.Laws.{laws-law}
-use Rattle.tx_eqtb.specs.Addresses.{same, entry_at, update}
+use Rattle.tx_eqtb.specs.Addresses.{entry_at, update}
 use Rattle.tx_eqtb.specs.Meanings.{Map}
-use Rattle.tx_eqtb.specs.Tables.{Table, IsNoted, entry, noted, now, said, before}
-use Rattle.tx_eqtb.specs.Steps.{KeepsBefore, answer, note, Answered, GoesBack, meaning_back, entry_back, note_back, entry_before, IsLeftOf, where_noted}
+use Rattle.tx_eqtb.specs.Tables.{Table, entry, noted, now, said, before}
+use Rattle.tx_eqtb.specs.Steps.{entry_before, IsLeftOf, where_noted}
 use Rattle.tx_eqtb.proofs.AddressLemmas.{by_address}
 
 module _ {B : Type 0} where

@@ -1,5 +1,5 @@
 -- What every address means. The TeXbook, chapter 24.
-use Rattle.std.specs.Prelude.{List, [], ◌∷◌, pos, None, unwrap_or}
+use Rattle.std.specs.Prelude.{List, [], pos, None, unwrap_or}
 use Rattle.tx_num.specs.declared.glue.GlueSpec.{GlueSpec}
 use Rattle.tx_num.specs.declared.glue.Order.TheVariants as order
 use Rattle.tx_tok.specs.declared.tok.ListRef.TheVariants as list

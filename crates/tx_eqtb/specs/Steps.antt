@@ -1,5 +1,5 @@
 -- What the changes of a table do.
-use Rattle.std.specs.Prelude.{◌≡◌, Bool, List, [], ◌∷◌, Option, None, Some, is_some, IsSome, option_and_then, if◌then◌else◌}
+use Rattle.std.specs.Prelude.{◌≡◌, List, [], ◌∷◌, Option, None, Some, is_some, IsSome, option_and_then, if◌then◌else◌}
 use Rattle.tx_eqtb.specs.declared.addr.Addr.{Addr}
 use Rattle.tx_eqtb.specs.declared.meaning.Meaning.{Meaning}
 use Rattle.tx_eqtb.specs.declared.meaning.Before.{Before}

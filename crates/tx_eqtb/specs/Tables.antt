@@ -1,5 +1,5 @@
 -- A table over a frozen one, and the way back to what it was before a region.
-use Rattle.std.specs.Prelude.{◌≡◌, ℕ, Bool, List, [], ◌∷◌, ◌++◌, Option, None, Some, IsSome, unwrap_or, count_by}
+use Rattle.std.specs.Prelude.{◌≡◌, Bool, List, [], ◌∷◌, ◌++◌, Option, IsSome, unwrap_or, count_by}
 use Rattle.std.specs.Map.{values_of}
 use Rattle.std.specs.Option.{option_map_or}
 use Rattle.tx_eqtb.specs.declared.addr.Addr.{Addr}

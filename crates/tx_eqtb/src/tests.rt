@@ -77,10 +77,18 @@ fn later_changes(rt: HostRuntime) -> Result<(), Fail> {
     assert!(rt; matches!(overlay.set(count(1), Meaning::Int(9)), Ok(Old::Kept)));
     assert!(rt; matches!(overlay.keep(), Some(Meaning::Int(8))));
     assert_eq!(rt; read(&overlay, &table, 1), Some(9));
-    if let Ok(old) = overlay.set(count(1), Meaning::Int(10)) {
-        assert!(rt; matches!(overlay.put_back(count(1), old), Meaning::Int(10)));
+    Ok(())
+}
+
+#[test]
+fn put_back(rt: HostRuntime) -> Result<(), Fail> {
+    let table = frozen(rt.alloc())?;
+    let mut overlay = Overlay::new(rt.alloc());
+    let at = count(1);
+    if let Ok(old) = overlay.set(at, Meaning::Int(8)) {
+        assert!(rt; matches!(overlay.put_back(at, old), Meaning::Int(8)));
     }
-    assert_eq!(rt; read(&overlay, &table, 1), Some(9));
+    assert_eq!(rt; read(&overlay, &table, 1), Some(7));
     Ok(())
 }
 

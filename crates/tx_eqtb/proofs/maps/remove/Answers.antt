@@ -1,5 +1,4 @@
-use Rattle.std.proofs.Common.{rules, ◌∙◌, sym, ap, subst, ◌≡◌, sum_by, ◌+◌}
-use Rattle.std.specs.Map.{values_of}
+use Rattle.std.proofs.Common.{◌∙◌, sym}
 use Rattle.tx_eqtb.specs.Addresses.{same}
 use Rattle.tx_eqtb.proofs.EntryLemmas.{sum_by-removed}
 use Rattle.tx_eqtb.proofs.maps.remove.Goals as goal

@@ -1,6 +1,5 @@
-use Rattle.std.proofs.Common.{rules, ◌∙◌, sym, ap, ◌≡◌, Some}
-use Rattle.indexmap.specs.IndexMap.{insert_entry}
-use Rattle.tx_eqtb.specs.Addresses.{same, entry_at}
+use Rattle.std.proofs.Common.{◌∙◌, sym, ◌≡◌}
+use Rattle.tx_eqtb.specs.Addresses.{entry_at}
 use Rattle.tx_eqtb.proofs.EntryLemmas.{on_ok, if_ok, sum_by-inserted}
 use Rattle.tx_eqtb.proofs.maps.replace.Goals as goal
 
