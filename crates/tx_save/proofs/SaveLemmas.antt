@@ -150,3 +150,10 @@ module _ {B : Type 0} where
       match_cases (level a == 1)
       (λ z p. ap (λ c. if c then below first now level s else below first (update now a v) (update level a outer) s) z ∙ below-closed d first now level s p e)
       (λ z p. ap (λ c. if c then below first now level s else below first (update now a v) (update level a outer) s) z ∙ below-closed d first (update now a v) (update level a outer) s p.1 e) h
+
+  -- and what is saved there goes back into any table
+  pub fits-outermost : (d : ℕ) (says : Addr → Option (Before B)) (level : Addr → ℕ) (s : List (Save B)) → IsLeveled d level s → d ≡ 1 → FitsAll says level s
+  fits-outermost d says level [] h e = tt
+  fits-outermost d says level (save.Mark outer ∷ s) h e = absurd (omega (arith, h.0, e))
+  fits-outermost d says level (save.Saved a was outer ∷ s) h e =
+      match_cases (level a == 1) (λ z p. match_true _ _ _ z (fits-outermost d says level s p e)) (λ z p. absurd (true≢false (sym (ap (λ n. n == 1) (p.0 ∙ e)) ∙ z))) h

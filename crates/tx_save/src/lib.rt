@@ -1,6 +1,7 @@
 //! Groups: what a local assignment changes is what it was before once its group ends.
 #![tactic(auto)]
 
+pub mod examples;
 mod group;
 mod levels;
 mod save;

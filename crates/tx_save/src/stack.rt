@@ -4,7 +4,7 @@ ghost use Rattle.std.specs.Prelude.{◌≡◌, ◌≢◌, ◌+◌, ◌<◌, ◌�
 ghost use Rattle.std.specs.Option.{option_to_list};
 ghost use Rattle.tx_eqtb.specs.Addresses.{update};
 ghost use Rattle.tx_eqtb.specs.Meanings.{Map};
-ghost use Rattle.tx_eqtb.specs.Tables.{noted, now, before, held, SameCounts};
+ghost use Rattle.tx_eqtb.specs.Tables.{Table, noted, now, before, held, SameCounts};
 ghost use Rattle.tx_eqtb.specs.Steps.{Sets, KeepsBefore, moved};
 ghost use Rattle.tx_save.specs.Levels.{level_at};
 ghost use Rattle.tx_save.specs.Saves.{below, groups, saved, all_held, outermost, Fits, ChangesOutside, CanUnsave, Unsaves, Closes, dropped};
@@ -59,6 +59,14 @@ impl<B> SaveStack<B> {
         }
     }
 
+    /// The level: 1 where no group is open. There all that is saved goes back into any table.
+    pub fn level(&self) -> u8
+        ensures level { result ≡ self.now.level }
+        ensures outermost { self.now.level ≡ 1 → (table : Table B) → Fits table self.now }
+    {
+        self.level
+    }
+
     /// Begins a group. The errors are that the level is 255 already, and want of memory. They change
     /// nothing.
     pub fn begin(&mut self, kind: GroupKind) -> Result<(), SaveRefused>
@@ -67,6 +75,7 @@ impl<B> SaveStack<B> {
         ensures level { OnOk result (self.new.level ≡ self.old.level + 1) }
         ensures full { (result ≡ Err SaveRefused.GroupsFull) ↔ (self.old.level ≡ 255) }
         ensures unchanged { OnErr result (self.new ≡ self.old) }
+        ensures fits { (table : Table B) → Fits table self.old → Fits table self.new }
         ensures saved { saved self.new.stack ≡ saved self.old.stack }
     {
         if self.level == LAST_LEVEL {
