@@ -1,5 +1,5 @@
 -- What assignments do to the maps of the levels outside, and to what is saved.
-use Rattle.std.proofs.Common.{◌≡◌, ◌≢◌, ℕ, ◌+◌, ◌-◌, ◌<◌, ◌≤◌, ◌==◌, Bool, true, false, List, [], ◌∷◌, map, Option, None, Some, is_some, IsSome, MatchBool, option_and_then, if◌then◌else◌, refl, sym, ap, subst, ◌∙◌, true≢false, arith}
+use Rattle.std.proofs.Common.{◌≡◌, ◌≢◌, ℕ, ◌+◌, ◌-◌, ◌<◌, ◌≤◌, ◌==◌, true, false, List, [], ◌∷◌, map, Option, None, Some, is_some, IsSome, MatchBool, if◌then◌else◌, refl, sym, ap, subst, ◌∙◌, true≢false, arith}
 use Rattle.tx_eqtb.specs.declared.addr.Addr.{Addr}
 use Rattle.tx_eqtb.specs.declared.meaning.Meaning.{Meaning}
 use Rattle.tx_eqtb.specs.declared.meaning.Before.{Before}

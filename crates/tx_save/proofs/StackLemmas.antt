@@ -1,18 +1,18 @@
 -- What the calls of a save stack do, from what they do to its parts.
-use Rattle.std.proofs.Common.{◌≡◌, ◌≢◌, ℕ, ◌+◌, ◌<◌, ◌==◌, Bool, true, false, cond, List, [], ◌∷◌, ◌++◌, map, length, Option, None, Some, Result, Ok, Err, OnOk, is_some, IsSome, MatchBool, sum_by, if◌then◌else◌, refl, sym, ap, subst, ◌∙◌, true≢false, arith}
+use Rattle.std.proofs.Common.{◌≡◌, ◌≢◌, ℕ, ◌+◌, ◌<◌, ◌==◌, true, false, cond, List, [], ◌∷◌, ◌++◌, map, length, Option, None, Some, Result, Ok, Err, OnOk, IsSome, MatchBool, sum_by, if◌then◌else◌, refl, sym, ap, subst, ◌∙◌, true≢false, arith}
 use Rattle.std.proofs.lemmas.List.Sums.{sum_by-cons, sum_by-append}
 use Rattle.tx_eqtb.specs.declared.addr.Addr.{Addr}
 use Rattle.tx_eqtb.specs.declared.meaning.Meaning.{Meaning}
 use Rattle.tx_eqtb.specs.declared.meaning.Before.{Before}
 use Rattle.tx_eqtb.specs.declared.meaning.Old.{Old}
-use Rattle.tx_eqtb.specs.Addresses.{same, update}
+use Rattle.tx_eqtb.specs.Addresses.{update}
 use Rattle.tx_eqtb.specs.Meanings.{Map}
 use Rattle.tx_eqtb.specs.Tables.{Table, entry, noted, now, before, held, SameCounts}
 use Rattle.tx_eqtb.specs.Steps.{Sets, KeepsBefore, note, moved, meaning_back, note_back, Answered, GoesBack}
 use Rattle.tx_save.specs.declared.save.Save.{Save}
 use Rattle.tx_save.specs.declared.save.Save.TheVariants as save
 use Rattle.tx_save.specs.Levels.{level_at}
-use Rattle.tx_save.specs.Saves.{Saves, below, outside, saved, all_held, Fits, FitsAll, IsLeveled, ChangesOutside, Unsaves}
+use Rattle.tx_save.specs.Saves.{Saves, below, outside, saved, Fits, FitsAll, IsLeveled, ChangesOutside, Unsaves}
 use Rattle.tx_save.proofs.UpdateLemmas.{match_cases, match_false, update-same, update-twice, update-self}
 use Rattle.tx_save.proofs.SaveLemmas.{eqb-no, below-global, fits-global, below-again, noted-again, below-closed}
 

@@ -1,5 +1,5 @@
 -- A small save stack, for the examples.
-use Rattle.std.specs.Prelude.{◌≡◌, ℕ, List, [], ◌∷◌, pos, map}
+use Rattle.std.specs.Prelude.{ℕ, List, [], ◌∷◌, pos, map}
 use Rattle.tx_eqtb.specs.declared.addr.Addr.{Addr}
 use Rattle.tx_eqtb.specs.declared.addr.AddrKind.TheVariants as addr_kind
 use Rattle.tx_eqtb.specs.declared.meaning.Meaning.{Meaning}

@@ -9,3 +9,6 @@ mod stack;
 
 pub use group::{Closed, GroupKind, SaveRefused};
 pub use stack::SaveStack;
+
+#[cfg(test)]
+mod tests;

@@ -1,4 +1,4 @@
-use Rattle.std.proofs.Common.{◌≡◌, ◌≢◌, ℕ, sym, ap, subst, ◌∙◌, reverse}
+use Rattle.std.proofs.Common.{◌≡◌, ◌≢◌, sym, ap, subst, ◌∙◌, reverse}
 use Rattle.tx_eqtb.specs.declared.addr.Addr.{Addr}
 use Rattle.tx_eqtb.specs.Addresses.{update}
 use Rattle.tx_save.specs.Levels.{level_at}

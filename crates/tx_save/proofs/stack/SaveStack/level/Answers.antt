@@ -1,4 +1,4 @@
-use Rattle.std.proofs.Common.{ap, subst, sym, ◌∙◌, reverse}
+use Rattle.std.proofs.Common.{ap, subst, ◌∙◌, reverse}
 use Rattle.tx_eqtb.specs.Tables.{noted}
 use Rattle.tx_save.specs.Levels.{level_at}
 use Rattle.tx_save.specs.Saves.{Fits}
