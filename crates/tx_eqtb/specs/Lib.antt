@@ -1,0 +1,5 @@
+pub mod Addresses
+pub mod Meanings
+pub mod Tables
+pub mod Steps
+pub mod Sample

@@ -1,0 +1,3 @@
+pub mod UpdateLemmas
+pub mod SaveLemmas
+pub mod StackLemmas
