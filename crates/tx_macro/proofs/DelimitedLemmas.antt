@@ -1,11 +1,13 @@
 -- A delimited argument is the shortest balanced tokens before its delimiter.
-use Rattle.std.proofs.Common.{◌≡◌, ℕ, Bool, true, false, not, cond, ◌&&◌, eqb, List, [], ◌∷◌, ◌++◌, refl, sym, ◌∙◌, ap, append_assoc, append-nil}
+use Rattle.std.proofs.Common.{◌≡◌, ℕ, ◌+◌, ◌<◌, length, length-append, arith, Bool, true, false, not, cond, ◌&&◌, eqb, List, [], ◌∷◌, ◌++◌, refl, sym, ◌∙◌, ap, append_assoc, append-nil}
+use Rattle.std.proofs.lemmas.Bool.{eq-eqb}
 use Rattle.tx_tok.specs.declared.tok.Tok.{Tok}
 use Rattle.tx_macro.specs.declared.rule.Rule.{Rule}
 use Rattle.tx_macro.specs.declared.rule.Misuse.TheVariants as misuse
 use Rattle.tx_macro.specs.Outcome.{same, is_end, level_after, Depth, At, Breaks, grown, Standing, Stands, Within, Differs, standing, Found, stripped, ended, onward, delimited}
 use Rattle.tx_macro.specs.Split.{is_balanced, IsDelimited}
-use Rattle.tx_macro.proofs.SameLemmas.{both, standing-equal, standing-itself}
+use Rattle.tx_macro.proofs.SameLemmas.{both, and-true, standing-equal, standing-itself, within-fewer}
+use Rattle.tx_macro.proofs.SettlingLemmas.{delimited-onward}
 
 -- a delimited argument where so many groups are open
 pub record IsShortest (depth : ℕ) (delimiter raw later : List Tok) : Type 0 where
@@ -122,3 +124,58 @@ takes rule delimiter depth argument [] found rest e = cc
 takes rule delimiter depth argument (t ∷ tokens) found rest e =
     takes-by rule delimiter depth argument t tokens found rest (λ n. takes rule delimiter n (argument ++ t ∷ []) tokens found rest)
     (eqb depth 0) (standing delimiter (t ∷ tokens)) (grown rule depth t) refl refl refl e
+
+-- a token of an argument that may have any
+grown-free : (long same_par ends : Bool) (level : ℕ) → long ≡ true → ends ≡ false →
+    cond (not long && same_par) (Breaks misuse.ParEnded) (cond ends (Breaks misuse.ExtraBrace) (At level)) ≡ At level
+grown-free long same_par ends level h e = rw (h, e) refl
+
+pub grown-long : (rule : Rule) (depth : ℕ) (t : Tok) → rule.long ≡ true → (eqb depth 0 && is_end t) ≡ false → grown rule depth t ≡ At (level_after depth t)
+grown-long rule depth t long inside =
+    grown-free rule.long (same t rule.par) (eqb depth 0 && is_end t) (level_after depth t) long inside
+
+not-true : (b : Bool) → not b ≡ true → b ≡ false
+not-true true e = cc
+not-true false e = refl
+
+-- what is said of the tokens behind the first
+pub shortest-rest : (depth : ℕ) (delimiter : List Tok) (t : Tok) (raw later : List Tok) → IsShortest depth delimiter (t ∷ raw) later →
+    ((eqb depth 0 && is_end t) ≡ false) × IsShortest (level_after depth t) delimiter raw later
+shortest-rest depth delimiter t raw later s =
+    let parts = both (not (eqb depth 0 && is_end t)) (is_balanced (level_after depth t) raw) s.balanced in (
+      not-true (eqb depth 0 && is_end t) parts.0,
+      record {
+        balanced = parts.1;
+        shortest = λ first more after split balanced stands. s.shortest (t ∷ first) more after (ap (λ xs. t ∷ xs) split)
+            (and-true (not (eqb depth 0 && is_end t)) (is_balanced (level_after depth t) first) parts.0 balanced) stands;
+      },
+    )
+
+cons≢nil : (t : Tok) (raw : List Tok) → t ∷ raw ≡ [] → ⊥
+cons≢nil t raw e = cc
+
+-- before the argument's end the delimiter doesn't stand
+differs-by : (depth : ℕ) (delimiter : List Tok) (t : Tok) (raw later : List Tok) → IsShortest depth delimiter (t ∷ raw) later → eqb depth 0 ≡ true →
+    (s : Standing) → standing delimiter (t ∷ raw ++ delimiter ++ later) ≡ s → standing delimiter (t ∷ raw ++ delimiter ++ later) ≡ Differs
+differs-by depth delimiter t raw later s none (Stands after) is =
+    absurd (cons≢nil t raw (s.shortest [] (t ∷ raw) after refl none (standing-equal delimiter (t ∷ raw ++ delimiter ++ later) after is)))
+differs-by depth delimiter t raw later s none Within is =
+    let fewer = within-fewer delimiter (t ∷ raw ++ delimiter ++ later) is in
+    let all = length-append (raw ++ delimiter) later in
+    let front = length-append raw delimiter in
+    absurd (omega (arith, fewer, all, front))
+differs-by depth delimiter t raw later s none Differs is = is
+
+-- the shortest balanced tokens before the delimiter are found
+pub found-shortest : (rule : Rule) → rule.long ≡ true → (p : Tok) (delimiter : List Tok) (raw : List Tok) (depth : ℕ) (argument later : List Tok) →
+    IsShortest depth (p ∷ delimiter) raw later →
+    delimited rule (p ∷ delimiter) depth argument (raw ++ (p ∷ delimiter) ++ later) ≡ Found (stripped (argument ++ raw)) later
+found-shortest rule long p delimiter [] depth argument later s =
+    rw (append-nil argument, s.balanced, standing-itself (p ∷ delimiter) later) refl
+found-shortest rule long p delimiter (t ∷ raw) depth argument later s =
+    let parts = shortest-rest depth (p ∷ delimiter) t raw later s in
+    let differs = λ (none : depth ≡ 0). differs-by depth (p ∷ delimiter) t raw later s (eq-eqb depth 0 none) (standing (p ∷ delimiter) (t ∷ raw ++ (p ∷ delimiter) ++ later)) refl in
+    delimited-onward rule (p ∷ delimiter) depth argument t (raw ++ (p ∷ delimiter) ++ later) differs
+    ∙ (ap (λ o. onward o (λ n. delimited rule (p ∷ delimiter) n (argument ++ t ∷ []) (raw ++ (p ∷ delimiter) ++ later))) (grown-long rule depth t long parts.0)
+    ∙ (found-shortest rule long p delimiter raw (level_after depth t) (argument ++ t ∷ []) later parts.1
+    ∙ ap (λ xs. Found (stripped xs) later) (append_assoc argument (t ∷ []) raw)))

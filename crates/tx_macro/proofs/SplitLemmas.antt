@@ -1,13 +1,19 @@
 -- Tokens that match are split so, and in one way.
-use Rattle.std.proofs.Common.{◌≡◌, List, [], ◌∷◌, ◌++◌, refl, sym, ◌∙◌, ap, subst, append-nil}
+use Rattle.std.proofs.Common.{◌≡◌, ℕ, ◌+◌, ◌-◌, ◌<◌, Bool, true, false, not, ◌&&◌, ◌||◌, eqb, leb, IsTrue, length, drop, get_or, inl, inr, arith, append_assoc, List, [], ◌∷◌, ◌++◌, refl, sym, ◌∙◌, ap, subst, append-nil}
+use Rattle.std.proofs.lemmas.Bool.{cases_lt, eqb-true}
+use Rattle.std.proofs.lemmas.List.{drop_more, drop_all}
+use Rattle.tx_model.specs.declared.category.Cat.{Cat}
 use Rattle.tx_tok.specs.declared.tok.Tok.{Tok}
+use Rattle.tx_tok.specs.declared.tok.Tok.TheVariants as tok
 use Rattle.tx_macro.specs.declared.rule.Rule.{Rule}
-use Rattle.tx_macro.specs.Outcome.{front, behind, Standing, Stands, Within, Differs, standing, Piece, Found, Partial, Wrong, argument_before, Outcome, Matched, Open, Fails, with_argument, followed, arguments, opened}
+use Rattle.tx_macro.specs.Outcome.{front, behind, Standing, Stands, Within, Differs, standing, Piece, Found, Partial, Wrong, argument_before, Outcome, Matched, Open, Fails, with_argument, followed, arguments, opened, outcome, undelimited, is_begin, is_end}
 use Rattle.tx_macro.specs.Split.{IsArgument, AreArguments, Splits}
-use Rattle.tx_macro.specs.Laws.{MatchedIsSplit}
-use Rattle.tx_macro.proofs.SameLemmas.{standing-equal}
-use Rattle.tx_macro.proofs.DelimitedLemmas.{takes, is-delimited}
-use Rattle.tx_macro.proofs.UndelimitedLemmas.{takes-one}
+use Rattle.tx_macro.specs.Laws.{MatchedIsSplit, SplitIsMatched, SplitIsUnique, SubstitutionRestores}
+use Rattle.tx_macro.specs.ParameterText.{is_text_from}
+use Rattle.tx_macro.specs.Substitution.{substituted}
+use Rattle.tx_macro.proofs.SameLemmas.{both, standing-equal, standing-itself}
+use Rattle.tx_macro.proofs.DelimitedLemmas.{takes, is-delimited, found-shortest, is-shortest}
+use Rattle.tx_macro.proofs.UndelimitedLemmas.{takes-one, found-behind-blanks}
 
 -- an argument and its delimiter
 record TakesArgument (delimiter tokens argument later : List Tok) : Type 0 where
@@ -91,3 +97,92 @@ by-first rule params tokens found rest Differs is e = cc
 pub matched-is-split : MatchedIsSplit
 matched-is-split long par params tokens found rest e =
     by-first (record { long = long; par = par }) params tokens found rest (standing (front params) tokens) refl e
+
+-- an argument as it stood and its delimiter are found
+found-argument : (rule : Rule) → rule.long ≡ true → (delimiter raw argument later : List Tok) → IsArgument delimiter raw argument later →
+    argument_before rule delimiter (raw ++ delimiter ++ later) ≡ Found argument later
+found-argument rule long [] raw argument later h =
+    ap (λ xs. undelimited rule 0 [] (xs ++ later)) (append-nil raw ∙ h.split)
+    ∙ (found-behind-blanks rule long h.blanks h.one later h.blank h.is_one ∙ ap (λ x. Found x later) (sym h.bare))
+found-argument rule long (p ∷ delimiter) raw argument later h =
+    found-shortest rule long p delimiter raw 0 [] later (is-shortest (p ∷ delimiter) raw later h.0) ∙ ap (λ x. Found x later) (sym h.1)
+
+found-arguments : (rule : Rule) → rule.long ≡ true → (delimiters raws found : List (List Tok)) (tokens rest : List Tok) →
+    AreArguments delimiters raws found tokens rest → arguments rule delimiters tokens ≡ Matched found rest
+found-arguments rule long [] [] [] tokens rest h = ap (λ x. Matched [] x) h
+found-arguments rule long (delimiter ∷ delimiters) (raw ∷ raws) (a ∷ found) tokens rest h =
+    ap (arguments rule (delimiter ∷ delimiters)) h.1
+    ∙ (ap (λ p. followed p (arguments rule delimiters)) (found-argument rule long delimiter raw a h.0 h.2)
+    ∙ ap (with_argument a) (found-arguments rule long delimiters raws found h.0 rest h.3))
+found-arguments rule long delimiters raws found tokens rest h = absurd h
+
+pub split-is-matched : SplitIsMatched
+split-is-matched par params tokens found rest split =
+    ap (outcome true par params) split.first
+    ∙ (ap (λ s. opened s (arguments (record { long = true; par = par }) (behind params))) (standing-itself (front params) split.later)
+    ∙ found-arguments (record { long = true; par = par }) refl (behind params) split.raws found split.later rest split.each)
+
+same-found : (found others : List (List Tok)) (rest other : List Tok) → Matched found rest ≡ Matched others other → (found ≡ others) × (rest ≡ other)
+same-found found others rest other e =
+    let arguments_are : found ≡ others = cc in
+    let rest_is : rest ≡ other = cc in
+    (arguments_are, rest_is)
+
+pub split-is-unique : SplitIsUnique
+split-is-unique params tokens found others rest other a b =
+    same-found found others rest other
+    (sym (split-is-matched tok.Stop params tokens found rest a) ∙ split-is-matched tok.Stop params tokens others other b)
+
+-- the arguments from here on begin with this one
+drop-first : (n : ℕ) (all : List (List Tok)) (raw : List Tok) (raws : List (List Tok)) → drop n all ≡ raw ∷ raws →
+    (get_or all n [] ≡ raw) × (drop (n + 1) all ≡ raws)
+drop-first n all raw raws e =
+    elim (cases_lt n (length all)) [
+      inl h ↦
+        let more : raw ∷ raws ≡ get_or all n [] ∷ drop (n + 1) all = sym e ∙ drop_more all n [] h in
+        let first : get_or all n [] ≡ raw = cc in
+        let rest : drop (n + 1) all ≡ raws = cc in
+        (first, rest)
+    | inr h ↦
+        let none : raw ∷ raws ≡ [] = sym e ∙ drop_all n all h in
+        cc
+    ]
+
+number-of : (k n : ℕ) → eqb k (n + 1) ≡ true → k - 1 ≡ n
+number-of k n e = let same = eqb-true k (n + 1) e in omega (arith, same)
+
+text-rest : (c : Cat) (b n : ℕ) (params : List Tok) → is_text_from n (tok.Char c b ∷ params) ≡ true → is_text_from n params ≡ true
+text-rest c b n params e =
+    (both (not (is_end (tok.Char c b)) && (not (is_begin (tok.Char c b)) || eqb (length params) 0)) (is_text_from n params) e).1
+
+-- the arguments as they stood in a parameter text whose first parameter is the next one
+restores : (params : List Tok) (n : ℕ) (all raws found : List (List Tok)) (later rest : List Tok) →
+    is_text_from (n + 1) params ≡ true → drop n all ≡ raws → AreArguments (behind params) raws found later rest →
+    substituted all params ++ rest ≡ front params ++ later
+restores [] n all [] [] later rest texts e h = sym h
+restores [] n all [] (a ∷ found) later rest texts e h = absurd h
+restores [] n all (raw ∷ raws) found later rest texts e h = absurd h
+restores (tok.Param k ∷ params) n all [] found later rest texts e h = absurd h
+restores (tok.Param k ∷ params) n all (raw ∷ raws) [] later rest texts e h = absurd h
+restores (tok.Param k ∷ params) n all (raw ∷ raws) (a ∷ found) later rest texts e h =
+    let parts = both (eqb k (n + 1) && leb (n + 1) 9) (is_text_from (n + 1 + 1) params) texts in
+    let numbers = both (eqb k (n + 1)) (leb (n + 1) 9) parts.0 in
+    let number : k - 1 ≡ n = number-of k n numbers.0 in
+    let there = drop-first n all raw raws e in
+    let inner = restores params (n + 1) all raws found h.0 rest parts.1 there.1 h.3 in
+    ap (λ i. (get_or all i [] ++ substituted all params) ++ rest) number
+    ∙ (ap (λ x. (x ++ substituted all params) ++ rest) there.0
+    ∙ (append_assoc raw (substituted all params) rest
+    ∙ (ap (λ x. raw ++ x) inner ∙ (sym (append_assoc raw (front params) h.0) ∙ sym h.1))))
+restores (tok.Char c b ∷ params) n all raws found later rest texts e h =
+    ap (λ xs. tok.Char c b ∷ xs) (restores params n all raws found later rest (text-rest c b (n + 1) params texts) e h)
+restores (tok.Name m ∷ params) n all raws found later rest texts e h =
+    ap (λ xs. tok.Name m ∷ xs) (restores params n all raws found later rest texts e h)
+restores (tok.Active m ∷ params) n all raws found later rest texts e h =
+    ap (λ xs. tok.Active m ∷ xs) (restores params n all raws found later rest texts e h)
+restores (tok.Stop ∷ params) n all raws found later rest texts e h =
+    ap (λ xs. tok.Stop ∷ xs) (restores params n all raws found later rest texts e h)
+
+pub substitution-restores : SubstitutionRestores
+substitution-restores params tokens found rest split text =
+    restores params 0 split.raws split.raws found split.later rest text.0 refl split.each ∙ sym split.first

@@ -1,5 +1,5 @@
 -- An undelimited argument is blanks, and then one token or one group.
-use Rattle.std.proofs.Common.{◌≡◌, ℕ, ◌+◌, Bool, true, false, cond, ◌||◌, eqb, List, [], ◌∷◌, ◌++◌, length, refl, sym, ◌∙◌, ap, arith, append_assoc}
+use Rattle.std.proofs.Common.{◌≡◌, ℕ, ◌+◌, Bool, true, false, not, cond, ◌&&◌, ◌||◌, eqb, List, [], ◌∷◌, ◌++◌, length, refl, sym, ◌∙◌, ap, arith, append_assoc}
 use Rattle.std.proofs.Math.Bool.{or-true}
 use Rattle.std.proofs.lemmas.Bool.Decides.{nat_tests}
 use Rattle.tx_model.specs.declared.category.Cat.TheVariants as cat
@@ -8,8 +8,8 @@ use Rattle.tx_tok.specs.declared.tok.Tok.TheVariants as tok
 use Rattle.tx_macro.specs.declared.rule.Rule.{Rule}
 use Rattle.tx_macro.specs.Outcome.{is_begin, is_end, is_blank, level_after, Depth, At, Breaks, grown, Found, closes, is_group, stripped, onward, undelimited}
 use Rattle.tx_macro.specs.Split.{are_blank, is_single}
-use Rattle.tx_macro.proofs.SameLemmas.{and-true}
-use Rattle.tx_macro.proofs.DelimitedLemmas.{grown-at}
+use Rattle.tx_macro.proofs.SameLemmas.{both, and-true}
+use Rattle.tx_macro.proofs.DelimitedLemmas.{grown-at, grown-long}
 
 pub level-plain : (depth : ℕ) (t : Tok) → is_begin t ≡ false → is_end t ≡ false → level_after depth t ≡ depth
 level-plain depth (tok.Char cat.Begin b) h k = cc
@@ -151,3 +151,98 @@ blank-by rule t tokens found rest ih false is e = one-by rule t tokens found res
 pub takes-one : (rule : Rule) (tokens found rest : List Tok) → undelimited rule 0 [] tokens ≡ Found found rest → TakesOne tokens found rest
 takes-one rule [] found rest e = cc
 takes-one rule (t ∷ tokens) found rest e = blank-by rule t tokens found rest (takes-one rule tokens found rest) (is_blank t) refl e
+
+pub begin-is-no-end : (t : Tok) → is_begin t ≡ true → is_end t ≡ false
+begin-is-no-end (tok.Char cat.Begin b) h = refl
+begin-is-no-end t h = cc
+
+begin-is-no-blank : (t : Tok) → is_begin t ≡ true → is_blank t ≡ false
+begin-is-no-blank (tok.Char cat.Begin b) h = refl
+begin-is-no-blank t h = cc
+
+-- the group that closes here
+group-at : (rule : Rule) (n : ℕ) (argument : List Tok) (t : Tok) (raw rest : List Tok) (b : Bool) →
+    (closes n raw ≡ true → b ≡ false → undelimited rule n (argument ++ t ∷ []) (raw ++ rest) ≡ Found (stripped (argument ++ t ∷ raw)) rest) →
+    cond b (eqb (length raw) 0) (closes n raw) ≡ true →
+    cond b (Found (stripped (argument ++ t ∷ [])) (raw ++ rest)) (undelimited rule n (argument ++ t ∷ []) (raw ++ rest)) ≡ Found (stripped (argument ++ t ∷ raw)) rest
+group-at rule n argument t [] rest true ih e = refl
+group-at rule n argument t (u ∷ raw) rest true ih e = grind (arith, nat_tests)
+group-at rule n argument t raw rest false ih e = ih e refl
+
+-- a group that is open is found to its end
+found-group : (rule : Rule) → rule.long ≡ true → (raw : List Tok) (depth : ℕ) (argument rest : List Tok) →
+    eqb depth 0 ≡ false → eqb (length argument) 0 ≡ false → closes depth raw ≡ true →
+    undelimited rule depth argument (raw ++ rest) ≡ Found (stripped (argument ++ raw)) rest
+found-group rule long [] depth argument rest deep some ends = cc
+found-group rule long (t ∷ raw) depth argument rest deep some ends =
+    let inside : (eqb depth 0 && is_end t) ≡ false = rw deep refl in
+    undelimited-behind rule depth argument t (raw ++ rest) some
+    ∙ (ap (λ o. onward o (λ n. cond (eqb n 0) (Found (stripped (argument ++ t ∷ [])) (raw ++ rest)) (undelimited rule n (argument ++ t ∷ []) (raw ++ rest)))) (grown-long rule depth t long inside)
+    ∙ group-at rule (level_after depth t) argument t raw rest (eqb (level_after depth t) 0)
+    (λ more still. found-group rule long raw (level_after depth t) (argument ++ t ∷ []) rest still (push-some argument t) more
+    ∙ ap (λ xs. Found (stripped xs) rest) (append_assoc argument (t ∷ []) raw))
+    ends)
+
+-- a first token that is no blank
+first-plain : (rule : Rule) → rule.long ≡ true → (t : Tok) (tokens : List Tok) → is_blank t ≡ false → is_end t ≡ false →
+    undelimited rule 0 [] (t ∷ tokens) ≡ cond (eqb (level_after 0 t) 0) (Found (stripped (t ∷ [])) tokens) (undelimited rule (level_after 0 t) (t ∷ []) tokens)
+first-plain rule long t tokens plain inside = rw (plain, grown-long rule 0 t long inside) refl
+
+single-tests : (b e k c : Bool) → b ≡ false → (not b && not e && not k || b && c) ≡ true → (e ≡ false) × (k ≡ false)
+single-tests true e k c none h = cc
+single-tests false true k c none h = cc
+single-tests false false true c none h = cc
+single-tests false false false c none h = (refl, refl)
+
+group-tests : (b c : Bool) → b ≡ false → (b && c) ≡ true → ⊥
+group-tests true c none h = cc
+group-tests false c none h = cc
+
+group-test : (b e k c : Bool) → b ≡ true → (not b && not e && not k || b && c) ≡ true → c ≡ true
+group-test true e k c some h = h
+group-test false e k c some h = cc
+
+group-closes : (t : Tok) (raw : List Tok) → is_begin t ≡ true → (is_single (t ∷ raw) || is_group (t ∷ raw)) ≡ true → closes 0 (t ∷ raw) ≡ true
+group-closes t [] begin one = group-test (is_begin t) (is_end t) (is_blank t) (closes 0 (t ∷ [])) begin one
+group-closes t (u ∷ raw) begin one = (both (is_begin t) (closes 0 (t ∷ u ∷ raw)) one).1
+
+closes-deep : (t : Tok) (raw : List Tok) → eqb (level_after 0 t) 0 ≡ false → closes 0 (t ∷ raw) ≡ closes (level_after 0 t) raw
+closes-deep t raw deep = rw deep refl
+
+single-parts : (t : Tok) (raw : List Tok) → is_begin t ≡ false → (is_single (t ∷ raw) || is_group (t ∷ raw)) ≡ true →
+    (raw ≡ []) × (is_end t ≡ false) × (is_blank t ≡ false)
+single-parts t [] begin e =
+    let parts = single-tests (is_begin t) (is_end t) (is_blank t) (closes 0 (t ∷ [])) begin e in (refl, parts.0, parts.1)
+single-parts t (u ∷ raw) begin e = absurd (group-tests (is_begin t) (closes 0 (t ∷ u ∷ raw)) begin e)
+
+only-token : (t : Tok) (raw rest : List Tok) → raw ≡ [] → Found (stripped (t ∷ [])) (raw ++ rest) ≡ Found (stripped (t ∷ raw)) rest
+only-token t raw rest none = rw none refl
+
+-- one token or one group is found
+found-one-by : (rule : Rule) → rule.long ≡ true → (t : Tok) (raw rest : List Tok) → (is_single (t ∷ raw) || is_group (t ∷ raw)) ≡ true →
+    (b : Bool) → is_begin t ≡ b → undelimited rule 0 [] (t ∷ raw ++ rest) ≡ Found (stripped (t ∷ raw)) rest
+found-one-by rule long t raw rest one true is =
+    let inside = begin-is-no-end t is in
+    let deep : eqb (level_after 0 t) 0 ≡ false = rw (level-begin 0 t is) refl in
+    first-plain rule long t (raw ++ rest) (begin-is-no-blank t is) inside
+    ∙ (ap (λ b. cond b (Found (stripped (t ∷ [])) (raw ++ rest)) (undelimited rule (level_after 0 t) (t ∷ []) (raw ++ rest))) deep
+    ∙ found-group rule long raw (level_after 0 t) (t ∷ []) rest deep refl (sym (closes-deep t raw deep) ∙ group-closes t raw is one))
+found-one-by rule long t raw rest one false is =
+    let parts = single-parts t raw is one in
+    let none : eqb (level_after 0 t) 0 ≡ true = rw (level-plain 0 t is parts.1) refl in
+    first-plain rule long t (raw ++ rest) parts.2 parts.1
+    ∙ (ap (λ b. cond b (Found (stripped (t ∷ [])) (raw ++ rest)) (undelimited rule (level_after 0 t) (t ∷ []) (raw ++ rest))) none
+    ∙ only-token t raw rest parts.0)
+
+found-one : (rule : Rule) → rule.long ≡ true → (one rest : List Tok) → (is_single one || is_group one) ≡ true → undelimited rule 0 [] (one ++ rest) ≡ Found (stripped one) rest
+found-one rule long [] rest one = cc
+found-one rule long (t ∷ raw) rest one = found-one-by rule long t raw rest one (is_begin t) refl
+
+-- and behind blanks too
+pub found-behind-blanks : (rule : Rule) → rule.long ≡ true → (blanks one rest : List Tok) → are_blank blanks ≡ true → (is_single one || is_group one) ≡ true →
+    undelimited rule 0 [] (blanks ++ one ++ rest) ≡ Found (stripped one) rest
+found-behind-blanks rule long [] one rest blank is = found-one rule long one rest is
+found-behind-blanks rule long (t ∷ blanks) one rest blank is =
+    let parts = both (is_blank t) (are_blank blanks) blank in
+    ap (λ b. cond b (undelimited rule 0 [] (blanks ++ one ++ rest)) (onward (grown rule 0 t) (λ n. cond (eqb n 0) (Found (stripped (t ∷ [])) (blanks ++ one ++ rest)) (undelimited rule n (t ∷ []) (blanks ++ one ++ rest))))) parts.0
+    ∙ found-behind-blanks rule long blanks one rest parts.1 is

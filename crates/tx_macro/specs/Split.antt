@@ -1,5 +1,5 @@
 -- How a call's tokens split into delimiters and arguments. The TeXbook, chapter 20.
-use Rattle.std.specs.Prelude.{◌≡◌, ℕ, ◌==◌, Bool, true, false, not, ◌&&◌, ◌||◌, List, [], ◌∷◌, ◌++◌}
+use Rattle.std.specs.Prelude.{◌≡◌, ℕ, ◌==◌, Bool, true, false, not, ◌&&◌, ◌||◌, IsTrue, List, [], ◌∷◌, ◌++◌}
 use Rattle.tx_tok.specs.declared.tok.Tok.{Tok}
 use Rattle.tx_macro.specs.Outcome.{front, behind, is_begin, is_end, is_blank, level_after, is_group, stripped}
 
@@ -12,9 +12,9 @@ is_balanced depth (t ∷ tokens) = not (depth == 0 && is_end t) && is_balanced (
 -- balanced, and the shortest such, as balanced tokens at their front that the delimiter follows are
 -- all of them.
 pub record IsDelimited (delimiter raw later : List Tok) : Type 0 where
-  pub balanced : is_balanced 0 raw ≡ true
+  pub balanced : IsTrue (is_balanced 0 raw)
   pub shortest : (first more after : List Tok) →
-      raw ≡ first ++ more → is_balanced 0 first ≡ true → more ++ delimiter ++ later ≡ delimiter ++ after → more ≡ []
+      raw ≡ first ++ more → IsTrue (is_balanced 0 first) → more ++ delimiter ++ later ≡ delimiter ++ after → more ≡ []
 
 abbrev pub are_blank : List Tok → Bool
 are_blank [] = true
@@ -31,8 +31,8 @@ pub record IsUndelimited (raw argument : List Tok) : Type 0 where
   pub blanks : List Tok
   pub one : List Tok
   pub split : raw ≡ blanks ++ one
-  pub blank : are_blank blanks ≡ true
-  pub is_one : (is_single one || is_group one) ≡ true
+  pub blank : IsTrue (are_blank blanks)
+  pub is_one : IsTrue (is_single one || is_group one)
   pub bare : argument ≡ stripped one
 
 -- The tokens of an argument as it stood, before this delimiter and what follows it, and the argument.
