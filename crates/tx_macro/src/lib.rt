@@ -7,6 +7,7 @@
 
 mod argument;
 mod delimiters;
+pub mod examples;
 pub mod laws;
 mod macro_match;
 mod rule;
