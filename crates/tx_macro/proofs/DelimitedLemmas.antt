@@ -1,11 +1,11 @@
 -- A delimited argument is the shortest balanced tokens before its delimiter.
-use Rattle.std.proofs.Common.{◌≡◌, ℕ, length-append, arith, Bool, true, false, not, cond, ◌&&◌, eqb, List, [], ◌∷◌, ◌++◌, refl, sym, ◌∙◌, ap, append_assoc, append-nil}
+use Rattle.std.proofs.Common.{◌≡◌, ℕ, length-append, arith, Bool, true, false, not, cond, ◌&&◌, ◌||◌, eqb, List, [], ◌∷◌, ◌++◌, refl, sym, ◌∙◌, ap, append_assoc, append-nil}
 use Rattle.std.proofs.lemmas.Bool.{eq-eqb}
 use Rattle.tx_tok.specs.declared.tok.Tok.{Tok}
 use Rattle.tx_macro.specs.declared.rule.Rule.{Rule}
 use Rattle.tx_macro.specs.declared.rule.Misuse.TheVariants as misuse
 use Rattle.tx_macro.specs.Outcome.{same, is_end, level_after, Depth, At, Breaks, grown, Standing, Stands, Within, Differs, standing, Found, stripped, ended, onward, delimited}
-use Rattle.tx_macro.specs.Split.{is_balanced, IsDelimited}
+use Rattle.tx_macro.specs.Split.{is_balanced, IsDelimited, can_stand}
 use Rattle.tx_macro.proofs.SameLemmas.{both, and-true, standing-equal, standing-itself, within-fewer}
 use Rattle.tx_macro.proofs.SettlingLemmas.{delimited-onward}
 
@@ -126,13 +126,15 @@ takes rule delimiter depth argument (t ∷ tokens) found rest e =
     (eqb depth 0) (standing delimiter (t ∷ tokens)) (grown rule depth t) refl refl refl e
 
 -- a token of an argument that may have any
-grown-free : (long same_par ends : Bool) (level : ℕ) → long ≡ true → ends ≡ false →
+grown-free : (long same_par ends : Bool) (level : ℕ) → (long || not same_par) ≡ true → ends ≡ false →
     cond (not long && same_par) (Breaks misuse.ParEnded) (cond ends (Breaks misuse.ExtraBrace) (At level)) ≡ At level
-grown-free long same_par ends level h e = rw (h, e) refl
+grown-free true same_par ends level h e = rw e refl
+grown-free false true ends level h e = cc
+grown-free false false ends level h e = rw e refl
 
-pub grown-long : (rule : Rule) (depth : ℕ) (t : Tok) → rule.long ≡ true → (eqb depth 0 && is_end t) ≡ false → grown rule depth t ≡ At (level_after depth t)
-grown-long rule depth t long inside =
-    grown-free rule.long (same t rule.par) (eqb depth 0 && is_end t) (level_after depth t) long inside
+pub grown-freely : (rule : Rule) (depth : ℕ) (t : Tok) → (rule.long || not (same t rule.par)) ≡ true → (eqb depth 0 && is_end t) ≡ false → grown rule depth t ≡ At (level_after depth t)
+grown-freely rule depth t free inside =
+    grown-free rule.long (same t rule.par) (eqb depth 0 && is_end t) (level_after depth t) free inside
 
 not-true : (b : Bool) → not b ≡ true → b ≡ false
 not-true true e = cc
@@ -167,15 +169,16 @@ differs-by depth delimiter t raw later s none Within is =
 differs-by depth delimiter t raw later s none Differs is = is
 
 -- the shortest balanced tokens before the delimiter are found
-pub found-shortest : (rule : Rule) → rule.long ≡ true → (p : Tok) (delimiter : List Tok) (raw : List Tok) (depth : ℕ) (argument later : List Tok) →
-    IsShortest depth (p ∷ delimiter) raw later →
+pub found-shortest : (rule : Rule) (p : Tok) (delimiter : List Tok) (raw : List Tok) (depth : ℕ) (argument later : List Tok) →
+    can_stand rule.long rule.par raw ≡ true → IsShortest depth (p ∷ delimiter) raw later →
     delimited rule (p ∷ delimiter) depth argument (raw ++ (p ∷ delimiter) ++ later) ≡ Found (stripped (argument ++ raw)) later
-found-shortest rule long p delimiter [] depth argument later s =
+found-shortest rule p delimiter [] depth argument later free s =
     rw (append-nil argument, s.balanced, standing-itself (p ∷ delimiter) later) refl
-found-shortest rule long p delimiter (t ∷ raw) depth argument later s =
+found-shortest rule p delimiter (t ∷ raw) depth argument later free s =
     let parts = shortest-rest depth (p ∷ delimiter) t raw later s in
+    let frees = both (rule.long || not (same t rule.par)) (can_stand rule.long rule.par raw) free in
     let differs = λ (none : depth ≡ 0). differs-by depth (p ∷ delimiter) t raw later s (eq-eqb depth 0 none) (standing (p ∷ delimiter) (t ∷ raw ++ (p ∷ delimiter) ++ later)) refl in
     delimited-onward rule (p ∷ delimiter) depth argument t (raw ++ (p ∷ delimiter) ++ later) differs
-    ∙ (ap (λ o. onward o (λ n. delimited rule (p ∷ delimiter) n (argument ++ t ∷ []) (raw ++ (p ∷ delimiter) ++ later))) (grown-long rule depth t long parts.0)
-    ∙ (found-shortest rule long p delimiter raw (level_after depth t) (argument ++ t ∷ []) later parts.1
+    ∙ (ap (λ o. onward o (λ n. delimited rule (p ∷ delimiter) n (argument ++ t ∷ []) (raw ++ (p ∷ delimiter) ++ later))) (grown-freely rule depth t frees.0 parts.0)
+    ∙ (found-shortest rule p delimiter raw (level_after depth t) (argument ++ t ∷ []) later frees.1 parts.1
     ∙ ap (λ xs. Found (stripped xs) later) (append_assoc argument (t ∷ []) raw)))

@@ -1,17 +1,17 @@
 -- Tokens that match are split so, and in one way.
-use Rattle.std.proofs.Common.{◌≡◌, ℕ, ◌+◌, ◌-◌, true, not, ◌&&◌, ◌||◌, eqb, leb, length, drop, get_or, inl, inr, arith, append_assoc, List, [], ◌∷◌, ◌++◌, refl, sym, ◌∙◌, ap, subst, append-nil}
+use Rattle.std.proofs.Common.{◌≡◌, Bool, ℕ, ◌+◌, ◌-◌, true, not, ◌&&◌, ◌||◌, eqb, leb, length, drop, get_or, inl, inr, arith, append_assoc, List, [], ◌∷◌, ◌++◌, refl, sym, ◌∙◌, ap, subst, append-nil}
 use Rattle.std.proofs.lemmas.Bool.{cases_lt, eqb-true}
 use Rattle.std.proofs.lemmas.List.{drop_more, drop_all}
 use Rattle.tx_model.specs.declared.category.Cat.{Cat}
 use Rattle.tx_tok.specs.declared.tok.Tok.{Tok}
 use Rattle.tx_tok.specs.declared.tok.Tok.TheVariants as tok
 use Rattle.tx_macro.specs.declared.rule.Rule.{Rule}
-use Rattle.tx_macro.specs.Outcome.{front, behind, Standing, Stands, Within, Differs, standing, Piece, Found, Partial, Wrong, argument_before, Outcome, Matched, Open, Fails, with_argument, followed, arguments, opened, outcome, undelimited, is_begin, is_end}
-use Rattle.tx_macro.specs.Split.{IsArgument, AreArguments, Splits}
+use Rattle.tx_macro.specs.Outcome.{same, front, behind, Standing, Stands, Within, Differs, standing, Piece, Found, Partial, Wrong, argument_before, Outcome, Matched, Open, Fails, with_argument, followed, arguments, opened, outcome, undelimited, is_begin, is_end}
+use Rattle.tx_macro.specs.Split.{IsArgument, AreArguments, Splits, can_stand, all_can_stand}
 use Rattle.tx_macro.specs.Laws.{MatchedIsSplit, SplitIsMatched, SplitIsUnique, SubstitutionRestores}
 use Rattle.tx_macro.specs.ParameterText.{is_text_from}
 use Rattle.tx_macro.specs.Substitution.{substituted}
-use Rattle.tx_macro.proofs.SameLemmas.{both, standing-equal, standing-itself}
+use Rattle.tx_macro.proofs.SameLemmas.{both, and-true, standing-equal, standing-itself}
 use Rattle.tx_macro.proofs.DelimitedLemmas.{takes, is-delimited, found-shortest, is-shortest}
 use Rattle.tx_macro.proofs.UndelimitedLemmas.{takes-one, found-behind-blanks}
 
@@ -98,29 +98,46 @@ pub matched-is-split : MatchedIsSplit
 matched-is-split long par params tokens found rest e =
     by-first (record { long = long; par = par }) params tokens found rest (standing (front params) tokens) refl e
 
--- an argument as it stood and its delimiter are found
-found-argument : (rule : Rule) → rule.long ≡ true → (delimiter raw argument later : List Tok) → IsArgument delimiter raw argument later →
-    argument_before rule delimiter (raw ++ delimiter ++ later) ≡ Found argument later
-found-argument rule long [] raw argument later h =
-    ap (λ xs. undelimited rule 0 [] (xs ++ later)) (append-nil raw ∙ h.split)
-    ∙ (found-behind-blanks rule long h.blanks h.one later h.blank h.is_one ∙ ap (λ x. Found x later) (sym h.bare))
-found-argument rule long (p ∷ delimiter) raw argument later h =
-    found-shortest rule long p delimiter raw 0 [] later (is-shortest (p ∷ delimiter) raw later h.0) ∙ ap (λ x. Found x later) (sym h.1)
+can_stand-behind : (long : Bool) (par : Tok) (a b : List Tok) → can_stand long par (a ++ b) ≡ true → can_stand long par b ≡ true
+can_stand-behind long par [] b free = free
+can_stand-behind long par (t ∷ a) b free =
+    can_stand-behind long par a b (both (long || not (same t par)) (can_stand long par (a ++ b)) free).1
 
-found-arguments : (rule : Rule) → rule.long ≡ true → (delimiters raws found : List (List Tok)) (tokens rest : List Tok) →
+-- an argument as it stood and its delimiter are found
+found-argument : (rule : Rule) (delimiter raw argument later : List Tok) → can_stand rule.long rule.par raw ≡ true → IsArgument delimiter raw argument later →
+    argument_before rule delimiter (raw ++ delimiter ++ later) ≡ Found argument later
+found-argument rule [] raw argument later free h =
+    let free_one = can_stand-behind rule.long rule.par h.blanks h.one (ap (can_stand rule.long rule.par) (sym h.split) ∙ free) in
+    ap (λ xs. undelimited rule 0 [] (xs ++ later)) (append-nil raw ∙ h.split)
+    ∙ (found-behind-blanks rule h.blanks h.one later h.blank h.is_one free_one ∙ ap (λ x. Found x later) (sym h.bare))
+found-argument rule (p ∷ delimiter) raw argument later free h =
+    found-shortest rule p delimiter raw 0 [] later free (is-shortest (p ∷ delimiter) raw later h.0) ∙ ap (λ x. Found x later) (sym h.1)
+
+found-arguments : (rule : Rule) (delimiters raws found : List (List Tok)) (tokens rest : List Tok) → all_can_stand rule.long rule.par raws ≡ true →
     AreArguments delimiters raws found tokens rest → arguments rule delimiters tokens ≡ Matched found rest
-found-arguments rule long [] [] [] tokens rest h = ap (λ x. Matched [] x) h
-found-arguments rule long (delimiter ∷ delimiters) (raw ∷ raws) (a ∷ found) tokens rest h =
+found-arguments rule [] [] [] tokens rest free h = ap (λ x. Matched [] x) h
+found-arguments rule (delimiter ∷ delimiters) (raw ∷ raws) (a ∷ found) tokens rest free h =
+    let frees = both (can_stand rule.long rule.par raw) (all_can_stand rule.long rule.par raws) free in
     ap (arguments rule (delimiter ∷ delimiters)) h.1
-    ∙ (ap (λ p. followed p (arguments rule delimiters)) (found-argument rule long delimiter raw a h.0 h.2)
-    ∙ ap (with_argument a) (found-arguments rule long delimiters raws found h.0 rest h.3))
-found-arguments rule long delimiters raws found tokens rest h = absurd h
+    ∙ (ap (λ p. followed p (arguments rule delimiters)) (found-argument rule delimiter raw a h.0 frees.0 h.2)
+    ∙ ap (with_argument a) (found-arguments rule delimiters raws found h.0 rest frees.1 h.3))
+found-arguments rule delimiters raws found tokens rest free h = absurd h
 
 pub split-is-matched : SplitIsMatched
-split-is-matched par params tokens found rest split =
-    ap (outcome true par params) split.first
-    ∙ (ap (λ s. opened s (arguments (record { long = true; par = par }) (behind params))) (standing-itself (front params) split.later)
-    ∙ found-arguments (record { long = true; par = par }) refl (behind params) split.raws found split.later rest split.each)
+split-is-matched long par params tokens found rest split free =
+    ap (outcome long par params) split.first
+    ∙ (ap (λ s. opened s (arguments (record { long = long; par = par }) (behind params))) (standing-itself (front params) split.later)
+    ∙ found-arguments (record { long = long; par = par }) (behind params) split.raws found split.later rest free split.each)
+
+-- all tokens can stand in an argument of a long macro
+can_stand-long : (par : Tok) (tokens : List Tok) → can_stand true par tokens ≡ true
+can_stand-long par [] = refl
+can_stand-long par (t ∷ tokens) = can_stand-long par tokens
+
+all_can_stand-long : (par : Tok) (raws : List (List Tok)) → all_can_stand true par raws ≡ true
+all_can_stand-long par [] = refl
+all_can_stand-long par (raw ∷ raws) =
+    and-true (can_stand true par raw) (all_can_stand true par raws) (can_stand-long par raw) (all_can_stand-long par raws)
 
 same-found : (found others : List (List Tok)) (rest other : List Tok) → Matched found rest ≡ Matched others other → (found ≡ others) × (rest ≡ other)
 same-found found others rest other e =
@@ -131,7 +148,8 @@ same-found found others rest other e =
 pub split-is-unique : SplitIsUnique
 split-is-unique params tokens found others rest other a b =
     same-found found others rest other
-    (sym (split-is-matched tok.Stop params tokens found rest a) ∙ split-is-matched tok.Stop params tokens others other b)
+    (sym (split-is-matched true tok.Stop params tokens found rest a (all_can_stand-long tok.Stop a.raws))
+    ∙ split-is-matched true tok.Stop params tokens others other b (all_can_stand-long tok.Stop b.raws))
 
 -- the arguments from here on begin with this one
 drop-first : (n : ℕ) (all : List (List Tok)) (raw : List Tok) (raws : List (List Tok)) → drop n all ≡ raw ∷ raws →

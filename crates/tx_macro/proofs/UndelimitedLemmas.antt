@@ -6,10 +6,10 @@ use Rattle.tx_model.specs.declared.category.Cat.TheVariants as cat
 use Rattle.tx_tok.specs.declared.tok.Tok.{Tok}
 use Rattle.tx_tok.specs.declared.tok.Tok.TheVariants as tok
 use Rattle.tx_macro.specs.declared.rule.Rule.{Rule}
-use Rattle.tx_macro.specs.Outcome.{is_begin, is_end, is_blank, level_after, Depth, At, Breaks, grown, Found, closes, is_group, stripped, onward, undelimited}
-use Rattle.tx_macro.specs.Split.{are_blank, is_single}
+use Rattle.tx_macro.specs.Outcome.{same, is_begin, is_end, is_blank, level_after, Depth, At, Breaks, grown, Found, closes, is_group, stripped, onward, undelimited}
+use Rattle.tx_macro.specs.Split.{are_blank, is_single, can_stand}
 use Rattle.tx_macro.proofs.SameLemmas.{both, and-true}
-use Rattle.tx_macro.proofs.DelimitedLemmas.{grown-at, grown-long}
+use Rattle.tx_macro.proofs.DelimitedLemmas.{grown-at, grown-freely}
 
 pub level-plain : (depth : ℕ) (t : Tok) → is_begin t ≡ false → is_end t ≡ false → level_after depth t ≡ depth
 level-plain depth (tok.Char cat.Begin b) h k = cc
@@ -170,23 +170,24 @@ group-at rule n argument t (u ∷ raw) rest true ih e = grind (arith, nat_tests)
 group-at rule n argument t raw rest false ih e = ih e refl
 
 -- a group that is open is found to its end
-found-group : (rule : Rule) → rule.long ≡ true → (raw : List Tok) (depth : ℕ) (argument rest : List Tok) →
-    eqb depth 0 ≡ false → eqb (length argument) 0 ≡ false → closes depth raw ≡ true →
+found-group : (rule : Rule) → (raw : List Tok) (depth : ℕ) (argument rest : List Tok) →
+    eqb depth 0 ≡ false → eqb (length argument) 0 ≡ false → closes depth raw ≡ true → can_stand rule.long rule.par raw ≡ true →
     undelimited rule depth argument (raw ++ rest) ≡ Found (stripped (argument ++ raw)) rest
-found-group rule long [] depth argument rest deep some ends = cc
-found-group rule long (t ∷ raw) depth argument rest deep some ends =
+found-group rule [] depth argument rest deep some ends free = cc
+found-group rule (t ∷ raw) depth argument rest deep some ends free =
+    let frees = both (rule.long || not (same t rule.par)) (can_stand rule.long rule.par raw) free in
     let inside : (eqb depth 0 && is_end t) ≡ false = rw deep refl in
     undelimited-behind rule depth argument t (raw ++ rest) some
-    ∙ (ap (λ o. onward o (λ n. cond (eqb n 0) (Found (stripped (argument ++ t ∷ [])) (raw ++ rest)) (undelimited rule n (argument ++ t ∷ []) (raw ++ rest)))) (grown-long rule depth t long inside)
+    ∙ (ap (λ o. onward o (λ n. cond (eqb n 0) (Found (stripped (argument ++ t ∷ [])) (raw ++ rest)) (undelimited rule n (argument ++ t ∷ []) (raw ++ rest)))) (grown-freely rule depth t frees.0 inside)
     ∙ group-at rule (level_after depth t) argument t raw rest (eqb (level_after depth t) 0)
-    (λ more still. found-group rule long raw (level_after depth t) (argument ++ t ∷ []) rest still (push-some argument t) more
+    (λ more still. found-group rule raw (level_after depth t) (argument ++ t ∷ []) rest still (push-some argument t) more frees.1
     ∙ ap (λ xs. Found (stripped xs) rest) (append_assoc argument (t ∷ []) raw))
     ends)
 
 -- a first token that is no blank
-first-plain : (rule : Rule) → rule.long ≡ true → (t : Tok) (tokens : List Tok) → is_blank t ≡ false → is_end t ≡ false →
+first-plain : (rule : Rule) (t : Tok) (tokens : List Tok) → (rule.long || not (same t rule.par)) ≡ true → is_blank t ≡ false → is_end t ≡ false →
     undelimited rule 0 [] (t ∷ tokens) ≡ cond (eqb (level_after 0 t) 0) (Found (stripped (t ∷ [])) tokens) (undelimited rule (level_after 0 t) (t ∷ []) tokens)
-first-plain rule long t tokens plain inside = rw (plain, grown-long rule 0 t long inside) refl
+first-plain rule t tokens free plain inside = rw (plain, grown-freely rule 0 t free inside) refl
 
 single-tests : (b e k c : Bool) → b ≡ false → (not b && not e && not k || b && c) ≡ true → (e ≡ false) × (k ≡ false)
 single-tests true e k c none h = cc
@@ -219,30 +220,32 @@ only-token : (t : Tok) (raw rest : List Tok) → raw ≡ [] → Found (stripped 
 only-token t raw rest none = rw none refl
 
 -- one token or one group is found
-found-one-by : (rule : Rule) → rule.long ≡ true → (t : Tok) (raw rest : List Tok) → (is_single (t ∷ raw) || is_group (t ∷ raw)) ≡ true →
+found-one-by : (rule : Rule) → (t : Tok) (raw rest : List Tok) → (is_single (t ∷ raw) || is_group (t ∷ raw)) ≡ true → can_stand rule.long rule.par (t ∷ raw) ≡ true →
     (b : Bool) → is_begin t ≡ b → undelimited rule 0 [] (t ∷ raw ++ rest) ≡ Found (stripped (t ∷ raw)) rest
-found-one-by rule long t raw rest one true is =
+found-one-by rule t raw rest one free true is =
+    let frees = both (rule.long || not (same t rule.par)) (can_stand rule.long rule.par raw) free in
     let inside = begin-is-no-end t is in
     let deep : eqb (level_after 0 t) 0 ≡ false = rw (level-begin 0 t is) refl in
-    first-plain rule long t (raw ++ rest) (begin-is-no-blank t is) inside
+    first-plain rule t (raw ++ rest) frees.0 (begin-is-no-blank t is) inside
     ∙ (ap (λ b. cond b (Found (stripped (t ∷ [])) (raw ++ rest)) (undelimited rule (level_after 0 t) (t ∷ []) (raw ++ rest))) deep
-    ∙ found-group rule long raw (level_after 0 t) (t ∷ []) rest deep refl (sym (closes-deep t raw deep) ∙ group-closes t raw is one))
-found-one-by rule long t raw rest one false is =
+    ∙ found-group rule raw (level_after 0 t) (t ∷ []) rest deep refl (sym (closes-deep t raw deep) ∙ group-closes t raw is one) frees.1)
+found-one-by rule t raw rest one free false is =
+    let frees = both (rule.long || not (same t rule.par)) (can_stand rule.long rule.par raw) free in
     let parts = single-parts t raw is one in
     let none : eqb (level_after 0 t) 0 ≡ true = rw (level-plain 0 t is parts.1) refl in
-    first-plain rule long t (raw ++ rest) parts.2 parts.1
+    first-plain rule t (raw ++ rest) frees.0 parts.2 parts.1
     ∙ (ap (λ b. cond b (Found (stripped (t ∷ [])) (raw ++ rest)) (undelimited rule (level_after 0 t) (t ∷ []) (raw ++ rest))) none
     ∙ only-token t raw rest parts.0)
 
-found-one : (rule : Rule) → rule.long ≡ true → (one rest : List Tok) → (is_single one || is_group one) ≡ true → undelimited rule 0 [] (one ++ rest) ≡ Found (stripped one) rest
-found-one rule long [] rest one = cc
-found-one rule long (t ∷ raw) rest one = found-one-by rule long t raw rest one (is_begin t) refl
+found-one : (rule : Rule) (one rest : List Tok) → (is_single one || is_group one) ≡ true → can_stand rule.long rule.par one ≡ true → undelimited rule 0 [] (one ++ rest) ≡ Found (stripped one) rest
+found-one rule [] rest one free = cc
+found-one rule (t ∷ raw) rest one free = found-one-by rule t raw rest one free (is_begin t) refl
 
 -- and behind blanks too
-pub found-behind-blanks : (rule : Rule) → rule.long ≡ true → (blanks one rest : List Tok) → are_blank blanks ≡ true → (is_single one || is_group one) ≡ true →
+pub found-behind-blanks : (rule : Rule) → (blanks one rest : List Tok) → are_blank blanks ≡ true → (is_single one || is_group one) ≡ true → can_stand rule.long rule.par one ≡ true →
     undelimited rule 0 [] (blanks ++ one ++ rest) ≡ Found (stripped one) rest
-found-behind-blanks rule long [] one rest blank is = found-one rule long one rest is
-found-behind-blanks rule long (t ∷ blanks) one rest blank is =
+found-behind-blanks rule [] one rest blank is free = found-one rule one rest is free
+found-behind-blanks rule (t ∷ blanks) one rest blank is free =
     let parts = both (is_blank t) (are_blank blanks) blank in
     ap (λ b. cond b (undelimited rule 0 [] (blanks ++ one ++ rest)) (onward (grown rule 0 t) (λ n. cond (eqb n 0) (Found (stripped (t ∷ [])) (blanks ++ one ++ rest)) (undelimited rule n (t ∷ []) (blanks ++ one ++ rest))))) parts.0
-    ∙ found-behind-blanks rule long blanks one rest parts.1 is
+    ∙ found-behind-blanks rule blanks one rest parts.1 is free

@@ -1,8 +1,8 @@
 -- What is proved of macro calls.
-use Rattle.std.specs.Prelude.{◌≡◌, Bool, true, List, ◌++◌}
+use Rattle.std.specs.Prelude.{◌≡◌, Bool, true, IsTrue, List, ◌++◌}
 use Rattle.tx_tok.specs.declared.tok.Tok.{Tok}
 use Rattle.tx_macro.specs.Outcome.{same, Matched, outcome}
-use Rattle.tx_macro.specs.Split.{Splits}
+use Rattle.tx_macro.specs.Split.{all_can_stand, Splits}
 use Rattle.tx_macro.specs.ParameterText.{IsParameterText}
 use Rattle.tx_macro.specs.Substitution.{substituted}
 
@@ -12,11 +12,11 @@ MatchedIsSplit =
     (long : Bool) (par : Tok) (params tokens : List Tok) (arguments : List (List Tok)) (rest : List Tok) →
     outcome long par params tokens ≡ Matched arguments rest → Splits params arguments tokens rest
 
--- and tokens that are split so match, where arguments may have `par`
+-- and tokens that are split so match, where the arguments as they stood have `par` only if the macro is long
 abbrev pub SplitIsMatched : Type 0
 SplitIsMatched =
-    (par : Tok) (params tokens : List Tok) (arguments : List (List Tok)) (rest : List Tok) →
-    Splits params arguments tokens rest → outcome true par params tokens ≡ Matched arguments rest
+    (long : Bool) (par : Tok) (params tokens : List Tok) (arguments : List (List Tok)) (rest : List Tok) (split : Splits params arguments tokens rest) →
+    IsTrue (all_can_stand long par split.raws) → outcome long par params tokens ≡ Matched arguments rest
 
 -- tokens are split in one way
 abbrev pub SplitIsUnique : Type 0

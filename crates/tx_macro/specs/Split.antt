@@ -1,7 +1,7 @@
 -- How a call's tokens split into delimiters and arguments. The TeXbook, chapter 20.
 use Rattle.std.specs.Prelude.{◌≡◌, ℕ, ◌==◌, Bool, true, false, not, ◌&&◌, ◌||◌, IsTrue, List, [], ◌∷◌, ◌++◌}
 use Rattle.tx_tok.specs.declared.tok.Tok.{Tok}
-use Rattle.tx_macro.specs.Outcome.{front, behind, is_begin, is_end, is_blank, level_after, is_group, stripped}
+use Rattle.tx_macro.specs.Outcome.{same, front, behind, is_begin, is_end, is_blank, level_after, is_group, stripped}
 
 -- Each brace closes within these tokens, where so many groups are open before them.
 abbrev pub is_balanced : ℕ → List Tok → Bool
@@ -55,3 +55,12 @@ pub record Splits (params : List Tok) (arguments : List (List Tok)) (tokens rest
   pub later : List Tok
   pub first : tokens ≡ front params ++ later
   pub each : AreArguments (behind params) raws arguments later rest
+
+-- Tokens can stand in an argument: they have `par` only if the macro is long.
+abbrev pub can_stand : Bool → Tok → List Tok → Bool
+can_stand long par [] = true
+can_stand long par (t ∷ tokens) = (long || not (same t par)) && can_stand long par tokens
+
+abbrev pub all_can_stand : Bool → Tok → List (List Tok) → Bool
+all_can_stand long par [] = true
+all_can_stand long par (raw ∷ raws) = can_stand long par raw && all_can_stand long par raws

@@ -7,7 +7,7 @@ pub fn matched_is_split()
     ensures { MatchedIsSplit }
 {}
 
-/// Tokens that are split so match, where the arguments may have `\par`.
+/// Tokens that are split so match, where the arguments have `\par` only if the macro is long.
 pub fn split_is_matched()
     ensures { SplitIsMatched }
 {}
