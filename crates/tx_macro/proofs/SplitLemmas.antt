@@ -156,14 +156,14 @@ drop-first : (n : ℕ) (all : List (List Tok)) (raw : List Tok) (raws : List (Li
     (get_or all n [] ≡ raw) × (drop (n + 1) all ≡ raws)
 drop-first n all raw raws e =
     elim (cases_lt n (length all)) [
-      inl h ↦
-        let more : raw ∷ raws ≡ get_or all n [] ∷ drop (n + 1) all = sym e ∙ drop_more all n [] h in
-        let first : get_or all n [] ≡ raw = cc in
-        let rest : drop (n + 1) all ≡ raws = cc in
-        (first, rest)
-    | inr h ↦
-        let none : raw ∷ raws ≡ [] = sym e ∙ drop_all n all h in
-        cc
+      | inl h ↦
+          let more : raw ∷ raws ≡ get_or all n [] ∷ drop (n + 1) all = sym e ∙ drop_more all n [] h in
+          let first : get_or all n [] ≡ raw = cc in
+          let rest : drop (n + 1) all ≡ raws = cc in
+          (first, rest)
+      | inr h ↦
+          let none : raw ∷ raws ≡ [] = sym e ∙ drop_all n all h in
+          cc
     ]
 
 number-of : (k n : ℕ) → eqb k (n + 1) ≡ true → k - 1 ≡ n

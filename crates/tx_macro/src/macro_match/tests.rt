@@ -73,7 +73,12 @@ fn a_delimiter_that_overlaps_itself(rt: HostRuntime) -> Result<(), Fail> {
         (b"{{a}}aab".as_slice(), Match::Done, 8, b"{a}".as_slice()),
         (b"{a}{}aab".as_slice(), Match::Done, 8, b"{a}{}".as_slice()),
         (b"{a} aab".as_slice(), Match::Done, 7, b"{a} ".as_slice()),
-        (b"a{aab}aab".as_slice(), Match::Done, 9, b"a{aab}".as_slice()),
+        (
+            b"a{aab}aab".as_slice(),
+            Match::Done,
+            9,
+            b"a{aab}".as_slice(),
+        ),
         (b"aa{}baab".as_slice(), Match::Done, 8, b"aa{}b".as_slice()),
         (b"aa\n".as_slice(), Match::ParEnded, 3, b"".as_slice()),
         (b"{a\n".as_slice(), Match::ParEnded, 3, b"".as_slice()),
