@@ -32,7 +32,7 @@ none-shortest depth delimiter later e = record {
   shortest = λ first more after split balanced stands. nil-parts first more split;
 }
 
--- what a token is where it is grown to a depth
+-- a token that leads to a depth
 grown-by : (long_par ends : Bool) (depth n level : ℕ) → cond long_par (Breaks misuse.ParEnded) (cond ends (Breaks misuse.ExtraBrace) (At level)) ≡ At n → (ends ≡ false) × (level ≡ n)
 grown-by true ends depth n level e = cc
 grown-by false true depth n level e = cc
@@ -68,7 +68,7 @@ shortest-cons depth n delimiter t raw later inside level s differs = record {
 }
 
 -- the argument and its delimiter, behind what was taken already
-pub record Takes (delimiter argument : List Tok) (depth : ℕ) (tokens found rest : List Tok) : Type 0 where
+pub record TakesDelimited (delimiter argument : List Tok) (depth : ℕ) (tokens found rest : List Tok) : Type 0 where
   pub raw : List Tok
   pub split : tokens ≡ raw ++ delimiter ++ rest
   pub bare : found ≡ stripped (argument ++ raw)
@@ -81,9 +81,9 @@ true≢false : true ≡ false → ⊥
 true≢false e = cc
 
 takes-cons : (rule : Rule) (delimiter : List Tok) (depth n : ℕ) (argument : List Tok) (t : Tok) (tokens found rest : List Tok) →
-    Takes delimiter (argument ++ t ∷ []) n tokens found rest → grown rule depth t ≡ At n →
+    TakesDelimited delimiter (argument ++ t ∷ []) n tokens found rest → grown rule depth t ≡ At n →
     (eqb depth 0 ≡ true → (after : List Tok) → t ∷ tokens ≡ delimiter ++ after → ⊥) →
-    Takes delimiter argument depth (t ∷ tokens) found rest
+    TakesDelimited delimiter argument depth (t ∷ tokens) found rest
 takes-cons rule delimiter depth n argument t tokens found rest r g differs =
     let at = grown-at rule depth n t g in
     record {
@@ -95,10 +95,10 @@ takes-cons rule delimiter depth n argument t tokens found rest r g differs =
 
 -- what the tokens from here on are, by what stands here
 takes-by : (rule : Rule) (delimiter : List Tok) (depth : ℕ) (argument : List Tok) (t : Tok) (tokens found rest : List Tok) →
-    ((n : ℕ) → delimited rule delimiter n (argument ++ t ∷ []) tokens ≡ Found found rest → Takes delimiter (argument ++ t ∷ []) n tokens found rest) →
+    ((n : ℕ) → delimited rule delimiter n (argument ++ t ∷ []) tokens ≡ Found found rest → TakesDelimited delimiter (argument ++ t ∷ []) n tokens found rest) →
     (b : Bool) (s : Standing) (o : Depth) → eqb depth 0 ≡ b → standing delimiter (t ∷ tokens) ≡ s → grown rule depth t ≡ o →
     ended b s argument (onward o (λ n. delimited rule delimiter n (argument ++ t ∷ []) tokens)) ≡ Found found rest →
-    Takes delimiter argument depth (t ∷ tokens) found rest
+    TakesDelimited delimiter argument depth (t ∷ tokens) found rest
 takes-by rule delimiter depth argument t tokens found rest ih true (Stands r) o b s g e =
     let bare : stripped argument ≡ found = cc in
     let same : r ≡ rest = cc in
@@ -119,13 +119,13 @@ takes-by rule delimiter depth argument t tokens found rest ih false s (At n) b i
 
 -- where an argument was found, it is the shortest balanced tokens before its delimiter
 pub takes : (rule : Rule) (delimiter : List Tok) (depth : ℕ) (argument tokens found rest : List Tok) →
-    delimited rule delimiter depth argument tokens ≡ Found found rest → Takes delimiter argument depth tokens found rest
+    delimited rule delimiter depth argument tokens ≡ Found found rest → TakesDelimited delimiter argument depth tokens found rest
 takes rule delimiter depth argument [] found rest e = cc
 takes rule delimiter depth argument (t ∷ tokens) found rest e =
     takes-by rule delimiter depth argument t tokens found rest (λ n. takes rule delimiter n (argument ++ t ∷ []) tokens found rest)
     (eqb depth 0) (standing delimiter (t ∷ tokens)) (grown rule depth t) refl refl refl e
 
--- a token of an argument that may have any
+-- a token that can stand in an argument
 grown-free : (long same_par ends : Bool) (level : ℕ) → (long || not same_par) ≡ true → ends ≡ false →
     cond (not long && same_par) (Breaks misuse.ParEnded) (cond ends (Breaks misuse.ExtraBrace) (At level)) ≡ At level
 grown-free true same_par ends level h e = rw e refl

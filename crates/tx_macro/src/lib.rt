@@ -3,6 +3,8 @@
 //!
 //! `specs/` says what a list of tokens is for a parameter text; [`MacroMatch`] is fed the tokens and
 //! answers as the definition does, and `substitute` puts the arguments into a body.
+//! The [`laws`] say that tokens that match are split into the delimiters and the shortest balanced
+//! arguments before them, and in one way.
 #![tactic(auto)]
 
 mod argument;
