@@ -17,7 +17,8 @@ ended-onward : (b : Bool) (s : Standing) (argument : List Tok) (later : Piece) �
 ended-onward true s argument later h = rw (h refl) refl
 ended-onward false s argument later h = refl
 
-delimited-onward : (rule : Rule) (delimiter : List Tok) (depth : ℕ) (argument : List Tok) (t : Tok) (tokens : List Tok) → (depth ≡ 0 → standing delimiter (t ∷ tokens) ≡ Differs) → delimited rule delimiter depth argument (t ∷ tokens) ≡ onward (grown rule depth t) (λ n. delimited rule delimiter n (argument ++ t ∷ []) tokens)
+-- a token of the argument
+pub delimited-onward : (rule : Rule) (delimiter : List Tok) (depth : ℕ) (argument : List Tok) (t : Tok) (tokens : List Tok) → (depth ≡ 0 → standing delimiter (t ∷ tokens) ≡ Differs) → delimited rule delimiter depth argument (t ∷ tokens) ≡ onward (grown rule depth t) (λ n. delimited rule delimiter n (argument ++ t ∷ []) tokens)
 delimited-onward rule delimiter depth argument t tokens h =
     ended-onward (eqb depth 0) (standing delimiter (t ∷ tokens)) argument (onward (grown rule depth t) (λ n. delimited rule delimiter n (argument ++ t ∷ []) tokens)) (λ e. h (depth_zero depth e))
 

@@ -3,10 +3,14 @@
 //!
 //! `specs/` says what a list of tokens is for a parameter text; [`MacroMatch`] is fed the tokens and
 //! answers as the definition does, and `substitute` puts the arguments into a body.
+//! The [`laws`] say that tokens that match are split into the delimiters and the shortest balanced
+//! arguments before them, and in one way.
 #![tactic(auto)]
 
 mod argument;
 mod delimiters;
+pub mod examples;
+pub mod laws;
 mod macro_match;
 mod rule;
 

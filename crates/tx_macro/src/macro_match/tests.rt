@@ -1,5 +1,6 @@
 ghost use Rattle.std.specs.Prelude.{◌≡◌};
 ghost use Rattle.tx_macro.specs.Matching.{IsOpen, IsDone};
+ghost use Rattle.tx_macro.specs.ParameterText.{IsParameterText};
 
 use super::*;
 use std::test::Fail;
@@ -35,44 +36,164 @@ fn fed(matching: &mut MacroMatch, call: &[Tok]) -> (Match, usize)
     (Match::More, call.len())
 }
 
+/// The token of a byte: `{` and `}` are braces, a space is a blank, a line end is `\par`, and any other
+/// byte is a letter.
+fn token(byte: u8) -> Tok {
+    match byte {
+        b'{' => BEGIN,
+        b'}' => END,
+        b' ' => BLANK,
+        b'\n' => PAR,
+        _ => Tok::Char(Cat::Letter, byte),
+    }
+}
+
+/// The tokens of a text.
+fn tokens(alloc: Global, text: &[u8]) -> Result<Vec<Tok>, AllocError> {
+    let mut tokens = Vec::new(alloc);
+    for byte in text {
+        tokens.push(token(*byte))?;
+    }
+    Ok(tokens)
+}
+
 #[test]
 fn a_delimiter_that_overlaps_itself(rt: HostRuntime) -> Result<(), Fail> {
     let alloc = rt.alloc();
     let params = [Tok::Param(1), A, A, B];
     for (call, answer, count, argument) in [
-        ([A, A, A, B].as_slice(), Match::Done, 4, [A].as_slice()),
-        ([A, A, B, A].as_slice(), Match::Done, 3, [].as_slice()),
+        (b"aaab".as_slice(), Match::Done, 4, b"a".as_slice()),
+        (b"aaba".as_slice(), Match::Done, 3, b"".as_slice()),
+        (b"aaaaab".as_slice(), Match::Done, 6, b"aaa".as_slice()),
+        (b"abaab".as_slice(), Match::Done, 5, b"ab".as_slice()),
+        (b"aacaab".as_slice(), Match::Done, 6, b"aac".as_slice()),
+        (b" aab".as_slice(), Match::Done, 4, b" ".as_slice()),
+        (b"{a}aab".as_slice(), Match::Done, 6, b"a".as_slice()),
+        (b"{}aab".as_slice(), Match::Done, 5, b"".as_slice()),
+        (b"{{a}}aab".as_slice(), Match::Done, 8, b"{a}".as_slice()),
+        (b"{a}{}aab".as_slice(), Match::Done, 8, b"{a}{}".as_slice()),
+        (b"{a} aab".as_slice(), Match::Done, 7, b"{a} ".as_slice()),
         (
-            [BEGIN, A, END, A, A, B].as_slice(),
-            Match::Done,
-            6,
-            [A].as_slice(),
-        ),
-        (
-            [A, BEGIN, A, A, B, END, A, A, B].as_slice(),
+            b"a{aab}aab".as_slice(),
             Match::Done,
             9,
-            [A, BEGIN, A, A, B, END].as_slice(),
+            b"a{aab}".as_slice(),
         ),
-        (
-            [BEGIN, A, END, BEGIN, END, A, A, B].as_slice(),
-            Match::Done,
-            8,
-            [BEGIN, A, END, BEGIN, END].as_slice(),
-        ),
-        ([A, A, PAR].as_slice(), Match::ParEnded, 3, [].as_slice()),
-        ([A, END].as_slice(), Match::ExtraBrace, 2, [].as_slice()),
-        ([A, BEGIN, B].as_slice(), Match::More, 3, [].as_slice()),
+        (b"aa{}baab".as_slice(), Match::Done, 8, b"aa{}b".as_slice()),
+        (b"aa\n".as_slice(), Match::ParEnded, 3, b"".as_slice()),
+        (b"{a\n".as_slice(), Match::ParEnded, 3, b"".as_slice()),
+        (b"a}".as_slice(), Match::ExtraBrace, 2, b"".as_slice()),
+        (b"{}aa}".as_slice(), Match::ExtraBrace, 5, b"".as_slice()),
+        (b"a{b".as_slice(), Match::More, 3, b"".as_slice()),
+        (b"{aab".as_slice(), Match::More, 4, b"".as_slice()),
+        (b"aaaa".as_slice(), Match::More, 4, b"".as_slice()),
     ] {
         let mut matching = MacroMatch::new(alloc, params.as_slice(), false, PAR)?;
-        let (last, fed) = fed(&mut matching, call);
+        let call = tokens(alloc, call)?;
+        let (last, fed) = fed(&mut matching, call.as_slice());
         assert_eq!(rt; last, answer);
         assert_eq!(rt; fed, count);
         if last == Match::Done {
+            let argument = tokens(alloc, argument)?;
             assert_eq!(rt; matching.arguments.len(), 1);
-            assert_eq!(rt; matching.arguments[0].as_slice(), argument);
+            assert_eq!(rt; matching.arguments[0].as_slice(), argument.as_slice());
         }
     }
+    Ok(())
+}
+
+/// The number of open groups after tokens, if none has an extra right brace.
+fn depth_after(tokens: &[Tok]) -> Option<usize> {
+    let mut depth: usize = 0;
+    for token in tokens {
+        if *token == BEGIN {
+            depth = depth.saturating_add(1);
+        }
+        if *token == END {
+            depth = depth.checked_sub(1)?;
+        }
+    }
+    Some(depth)
+}
+
+/// The first balanced tokens that the delimiter follows, found by trying each front.
+fn first_front<'a>(call: &'a [Tok], delimiter: &[Tok]) -> Option<&'a [Tok]> {
+    for place in 0..call.len() {
+        if depth_after(&call[..place]) == Some(0) {
+            if call[place..].starts_with(delimiter) {
+                return Some(&call[..place]);
+            }
+        }
+    }
+    None
+}
+
+/// Balanced tokens without the braces around them.
+fn without_braces(tokens: &[Tok]) -> &[Tok] {
+    if tokens.len() < 2 {
+        return tokens;
+    }
+    let inner = &tokens[1..tokens.len() - 1];
+    if tokens[0] == BEGIN && depth_after(inner) == Some(0) {
+        return inner;
+    }
+    tokens
+}
+
+/// One of the tokens `a`, `b` and the braces.
+fn symbol(number: usize) -> Tok {
+    match number % 4 {
+        0 => A,
+        1 => B,
+        2 => BEGIN,
+        _ => END,
+    }
+}
+
+/// Whether the matcher answers as the tries do.
+fn agrees(alloc: Global, params: &[Tok], call: &[Tok]) -> Result<bool, AllocError>
+    requires { IsParameterText params.now }
+{
+    let mut matching = MacroMatch::new(alloc, params, false, PAR)?;
+    let (last, count) = fed(&mut matching, call);
+    let delimiter = &params[1..];
+    let Some(front) = first_front(call, delimiter) else {
+        return Ok(match depth_after(call) {
+            Some(_) => last == Match::More,
+            None => last == Match::ExtraBrace,
+        });
+    };
+    if last != Match::Done || matching.arguments.len() != 1 {
+        return Ok(false);
+    }
+    let argument = matching.arguments[0].as_slice();
+    Ok(argument == without_braces(front) && count.checked_sub(front.len()) == Some(delimiter.len()))
+}
+
+/// Whether they agree on all calls of five tokens.
+fn agrees_on_all(alloc: Global, params: &[Tok]) -> Result<bool, AllocError>
+    requires { IsParameterText params.now }
+{
+    for number in 0..1024 {
+        let call = [
+            symbol(number),
+            symbol(number / 4),
+            symbol(number / 16),
+            symbol(number / 64),
+            symbol(number / 256),
+        ];
+        if !agrees(alloc, params, call.as_slice())? {
+            return Ok(false);
+        }
+    }
+    Ok(true)
+}
+
+#[test]
+fn tries_of_each_front(rt: HostRuntime) -> Result<(), Fail> {
+    let alloc = rt.alloc();
+    assert!(rt; agrees_on_all(alloc, [Tok::Param(1), A, A, B].as_slice())?);
+    assert!(rt; agrees_on_all(alloc, [Tok::Param(1), A, B].as_slice())?);
     Ok(())
 }
 
