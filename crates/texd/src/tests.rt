@@ -86,6 +86,49 @@ fn regions(rt: HostRuntime) -> Result<(), Fail> {
 }
 
 #[test]
+fn messages_and_definitions(rt: HostRuntime) -> Result<(), Fail> {
+    check(
+        &rt,
+        rt.alloc(),
+        "REGION 100 44\n\\def\\a{x}{\\def\\a{y}\\message{\\a}}\\message{\\a}",
+        0,
+        "DONE 23 0 0 4\ny\nx\n",
+    )?;
+    check(
+        &rt,
+        rt.alloc(),
+        "REGION 1000 20\n\\message{\u{e9}\\relax{}}",
+        0,
+        "DONE 9 0 0 18\n^^c3^^a9\\relax {}\n",
+    )?;
+    check(
+        &rt,
+        rt.alloc(),
+        "REGION 10000 12\n\\def\\a{\\a}\\a",
+        0,
+        "SPENT 10000 0 0 0\n",
+    )
+}
+
+#[test]
+fn groups(rt: HostRuntime) -> Result<(), Fail> {
+    check(
+        &rt,
+        rt.alloc(),
+        "REGION 1000 1\n}",
+        0,
+        "FAIL 1 0 0 20\n! Too many }'s.\nl.1\n",
+    )?;
+    check(
+        &rt,
+        rt.alloc(),
+        "REGION 1000 1\n{",
+        0,
+        "FAIL 2 0 0 46\n! Region ended inside a group at level 1.\nl.1\n",
+    )
+}
+
+#[test]
 fn inputs_that_are_no_frame(rt: HostRuntime) -> Result<(), Fail> {
     for input in [
         "",
