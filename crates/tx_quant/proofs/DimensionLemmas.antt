@@ -34,7 +34,7 @@ stage_is_open s (stage.Letters f b) = tt
 stage_is_open s (stage.True f) = tt
 stage_is_open s (stage.TrueLetters f b) = tt
 stage_is_open s (stage.Infinite v order) = tt
-stage_is_open s (stage.Space v) = tt
+stage_is_open s (stage.Space v order) = tt
 
 -- with nothing put back
 stage_asks : (s : Setting) (stage : DimStage) → dimension_at s stage [] ≡ putting_back 0 (dimension_at s stage [])
@@ -46,7 +46,7 @@ stage_asks s (stage.Letters f b) = refl
 stage_asks s (stage.True f) = refl
 stage_asks s (stage.TrueLetters f b) = refl
 stage_asks s (stage.Infinite v order) = refl
-stage_asks s (stage.Space v) = refl
+stage_asks s (stage.Space v order) = refl
 
 -- a reading goes on at a stage that says the same of what comes later
 pub goes_on_at : (s : Setting) (old : Reading (Behind Size)) (item : Item) (stage : DimStage) → ((items : List Item) → old (item ∷ items) ≡ dimension_at s stage items) → GoesOn old item (dimension_at s stage) 0

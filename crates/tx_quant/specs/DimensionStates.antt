@@ -27,7 +27,7 @@ dimension_at s (stage.Letters f begun) items = spell (after_word s f) (no_unit_h
 dimension_at s (stage.True f) items = after_true s f items
 dimension_at s (stage.TrueLetters f begun) items = spell (true_unit s f) (no_unit_here s) (due begun) 0 items
 dimension_at s (stage.Infinite f order) items = infinite (amount s f unit.Pt) order items
-dimension_at s (stage.Space v) items = unit_space v items
+dimension_at s (stage.Space v order) items = unit_space v order items
 
 abbrev pub dimension_says : DimScan → Reading ℤ
 dimension_says d items = and_then (dimension_at d.setting d.stage items) only_amount

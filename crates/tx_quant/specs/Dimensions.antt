@@ -18,7 +18,7 @@ use Rattle.tx_quant.specs.declared.units.UnitWord.TheVariants as word
 use Rattle.tx_quant.specs.declared.units.Unit.TheVariants as unit
 use Rattle.tx_quant.specs.Errors.{missing_number, number_too_big, no_unit, no_math_unit, too_infinite, dimension_too_large, incompatible_units}
 use Rattle.tx_quant.specs.Items.{Item, Token, Quantity, Letter, Move, Asks, Gives, Fails, Reading, is_space}
-use Rattle.tx_quant.specs.Behinds.{Behind, gives_before, and_then}
+use Rattle.tx_quant.specs.Behinds.{Behind, gives_before, and_then, after_putting_back}
 use Rattle.tx_quant.specs.Spelling.{letter, spell, nonblank}
 use Rattle.tx_quant.specs.Numbers.{is_other, digit, signed, unused}
 use Rattle.tx_quant.specs.Units.{unit_words, lengths}
@@ -39,9 +39,9 @@ ends None order back items = Fails dimension_too_large
 ends (Some v) order back items = gives_before items (size v order) back
 
 -- a space behind a unit is used
-abbrev pub unit_space : Option ℤ → Reading (Behind Size)
-unit_space v [] = Asks Expanded 0
-unit_space v (item ∷ items) = ends v Finite (unused item) items
+abbrev pub unit_space : Option ℤ → Order → Reading (Behind Size)
+unit_space v order [] = Asks Expanded 0
+unit_space v order (item ∷ items) = ends v order (unused item) items
 
 abbrev pub is_letter : ℕ → Option ℕ → Bool
 is_letter c None = false
@@ -54,13 +54,14 @@ if_higher Fil more = more Fill
 if_higher Fill more = more Filll
 if_higher Filll more = Fails too_infinite
 
--- After `fil` each `l` makes it more infinite. Spaces before an `l`, and the one behind the unit, are used.
+-- After `fil` each `l` makes it more infinite. Spaces before an `l` are used. What is no `l` is put back, and
+-- the space behind the unit is looked for.
 abbrev pub infinite : Option ℤ → Order → Reading (Behind Size)
 infinite v order [] = Asks Expanded 0
 infinite v order (item ∷ items) =
     if is_space item then infinite v order items
     else if is_letter 108 (letter item) then if_higher order (λ higher. infinite v higher items)
-    else ends v order 1 items
+    else after_putting_back 1 (unit_space v order) items
 
 abbrev pub missing_unit : Setting → ErrorNo
 missing_unit s = if s.math then no_math_unit else no_unit
@@ -70,7 +71,7 @@ no_unit_here s taken items = Fails (missing_unit s)
 
 -- a unit that stands after `true`
 abbrev pub true_unit : Setting → Factor → UnitWord → Reading (Behind Size)
-true_unit s f (word.Of u) items = unit_space (amount s f u) items
+true_unit s f (word.Of u) items = unit_space (amount s f u) Finite items
 true_unit s f word.True items = Fails (missing_unit s)
 true_unit s f word.Fil items = Fails (missing_unit s)
 
@@ -80,7 +81,7 @@ after_true s f items = nonblank (Asks Expanded 0) (spell (true_unit s f) (no_uni
 
 -- after one of the words that may stand behind a factor
 abbrev pub after_word : Setting → Factor → UnitWord → Reading (Behind Size)
-after_word s f (word.Of u) items = unit_space (amount s f u) items
+after_word s f (word.Of u) items = unit_space (amount s f u) Finite items
 after_word s f word.True items = after_true s f items
 after_word s f word.Fil items = infinite (amount s f unit.Pt) Fil items
 

@@ -33,7 +33,7 @@ pub(crate) fn after_quantity(setting: &Setting, stage: DimStage, q: Quant) -> Ne
         | DimStage::True(_)
         | DimStage::TrueLetters(_, _)
         | DimStage::Infinite(_, _)
-        | DimStage::Space(_) => Next::Bad(MISSING_NUMBER),
+        | DimStage::Space(_, _) => Next::Bad(MISSING_NUMBER),
     }
 }
 

@@ -25,5 +25,5 @@ pub(crate) enum DimStage {
     /// `fil` was taken, and more of its letters may follow.
     Infinite(Factor, Order),
     /// The unit was taken, and a space may follow. None stands for what is too large.
-    Space(Option<Sp>),
+    Space(Option<Sp>, Order),
 }

@@ -140,12 +140,12 @@ fn glues(rt: HostRuntime) -> Result<(), Fail> {
         ),
         (
             false,
-            "0pt plus 1fil l  mminus 1pt ",
+            "0pt plus 1fil l  mmminus 1pt ",
             Feed::Done(spec(zero, point, Order::Fill, point), 0),
         ),
         (
             false,
-            "1ptpplus1FILLLxx",
+            "1ptpplus1FILLLxxx",
             Feed::Done(spec(point, point, Order::Filll, zero), 1),
         ),
         (
@@ -155,10 +155,10 @@ fn glues(rt: HostRuntime) -> Result<(), Fail> {
         ),
         (
             false,
-            "0pt plus 1fil l mminus 1fillll",
+            "0pt plus 1fil l mmminus 1fillll",
             Feed::Bad(TOO_INFINITE),
         ),
-        (false, "0pt plus16384fil x", Feed::Bad(DIMENSION_TOO_LARGE)),
+        (false, "0pt plus16384fil xx", Feed::Bad(DIMENSION_TOO_LARGE)),
         (true, "1mu plus 1p", Feed::Bad(NO_MATH_UNIT)),
     ] {
         assert_eq!(rt; glue(mu, text), answer, "{text}");

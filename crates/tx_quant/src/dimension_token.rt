@@ -35,7 +35,7 @@ pub(crate) fn wanted(stage: DimStage) -> Want
         | DimStage::True(_)
         | DimStage::TrueLetters(_, _)
         | DimStage::Infinite(_, _)
-        | DimStage::Space(_) => Want::Expanded,
+        | DimStage::Space(_, _) => Want::Expanded,
     }
 }
 
@@ -52,7 +52,7 @@ pub(crate) fn after(setting: &Setting, stage: DimStage, t: Tok) -> Next<DimStage
         DimStage::True(factor) => first_true_letter(setting, factor, t),
         DimStage::TrueLetters(factor, begun) => next_true_letter(setting, factor, begun, t),
         DimStage::Infinite(factor, order) => infinite_letter(setting, factor, order, t),
-        DimStage::Space(amount) => ended(amount, Order::Finite, unused(t)),
+        DimStage::Space(amount, order) => ended(amount, order, unused(t)),
     }
 }
 
@@ -193,7 +193,7 @@ fn behind_word(setting: &Setting, factor: Factor, word: UnitWord) -> DimStage
     ensures { (items : List Item) → after_word setting.now factor word items ≡ dimension_at setting.now result items }
 {
     match word {
-        UnitWord::Of(unit) => DimStage::Space(amount(setting, factor, unit)),
+        UnitWord::Of(unit) => DimStage::Space(amount(setting, factor, unit), Order::Finite),
         UnitWord::True => DimStage::True(factor),
         UnitWord::Fil => DimStage::Infinite(factor, Order::Fil),
     }
@@ -215,12 +215,13 @@ fn behind_true(setting: &Setting, factor: Factor, word: UnitWord) -> Result<DimS
     ensures { Becomes setting.now result (true_unit setting.now factor word) }
 {
     match word {
-        UnitWord::Of(unit) => Ok(DimStage::Space(amount(setting, factor, unit))),
+        UnitWord::Of(unit) => Ok(DimStage::Space(amount(setting, factor, unit), Order::Finite)),
         UnitWord::True | UnitWord::Fil => Err(missing_unit(setting)),
     }
 }
 
-/// A token behind `fil`. It may make what is read more infinite.
+/// A token behind `fil`. It may make what is read more infinite; what doesn't is put back, and a space may
+/// follow the unit.
 fn infinite_letter(setting: &Setting, factor: Factor, order: Order, t: Tok) -> Next<DimStage, Size>
     ensures { Leads (dimension_at setting.now) result (dimension_at setting.now (DimStage.Infinite factor order)) (Token t) }
 {
@@ -228,7 +229,7 @@ fn infinite_letter(setting: &Setting, factor: Factor, order: Order, t: Tok) -> N
         return Next::More(DimStage::Infinite(factor, order), 0);
     }
     if !is_letter(letter(t), b'l') {
-        return ended(amount(setting, factor, Unit::Pt), order, 1);
+        return Next::More(DimStage::Space(amount(setting, factor, Unit::Pt), order), 1);
     }
     match order {
         Order::Finite => Next::More(DimStage::Infinite(factor, Order::Fil), 0),

@@ -68,7 +68,7 @@ pub fn dimensions()
 pub fn glue()
     ensures width { glue_value false (pos 0) (pos 0) (typed (codes "1ptx")) ≡ Asks Want.Expanded 1 }
     ensures rigid { glue_value false (pos 0) (pos 0) (typed (codes "1ptxxx")) ≡ Gives (record { width = pos 65536; stretch = pos 0; stretch_order = Order.Finite; shrink = pos 0; shrink_order = Order.Finite }) 1 }
-    ensures stretching { glue_value false (pos 0) (pos 0) (typed (codes "1pt plus -1fil lmminus 1.5ptx")) ≡ Gives (record { width = pos 65536; stretch = negsuc 65535; stretch_order = Order.Fill; shrink = pos 98304; shrink_order = Order.Finite }) 1 }
+    ensures stretching { glue_value false (pos 0) (pos 0) (typed (codes "1pt plus -1fil lmmminus 1.5ptx")) ≡ Gives (record { width = pos 65536; stretch = negsuc 65535; stretch_order = Order.Fill; shrink = pos 98304; shrink_order = Order.Finite }) 1 }
     ensures missing { glue_value false (pos 0) (pos 0) (typed (codes "1pt pl1")) ≡ Asks Want.Expanded 3 }
     ensures too_infinite { glue_value false (pos 0) (pos 0) (typed (codes "0pt plus 1fillll")) ≡ Fails too_infinite }
     ensures no_unit { glue_value false (pos 0) (pos 0) (typed (codes "1f")) ≡ Fails no_unit }
