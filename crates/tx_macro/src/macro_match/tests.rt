@@ -3,6 +3,7 @@ ghost use Rattle.tx_macro.specs.Matching.{IsOpen, IsDone};
 ghost use Rattle.tx_macro.specs.ParameterText.{IsParameterText};
 
 use super::*;
+use std::process::Abort;
 use std::test::Fail;
 use tx_tok::Cat;
 
@@ -170,17 +171,18 @@ fn agrees(alloc: Global, params: &[Tok], call: &[Tok]) -> Result<bool, AllocErro
     Ok(argument == without_braces(front) && count.checked_sub(front.len()) == Some(delimiter.len()))
 }
 
-/// Whether they agree on all calls of five tokens.
+/// Whether they agree on all calls of six tokens, and so on those that begin them.
 fn agrees_on_all(alloc: Global, params: &[Tok]) -> Result<bool, AllocError>
     requires { IsParameterText params.now }
 {
-    for number in 0..1024 {
+    for number in 0..4096 {
         let call = [
             symbol(number),
             symbol(number / 4),
             symbol(number / 16),
             symbol(number / 64),
             symbol(number / 256),
+            symbol(number / 1024),
         ];
         if !agrees(alloc, params, call.as_slice())? {
             return Ok(false);
@@ -195,6 +197,139 @@ fn tries_of_each_front(rt: HostRuntime) -> Result<(), Fail> {
     assert!(rt; agrees_on_all(alloc, [Tok::Param(1), A, A, B].as_slice())?);
     assert!(rt; agrees_on_all(alloc, [Tok::Param(1), A, B].as_slice())?);
     Ok(())
+}
+
+/// Checks a call: the last answer, how many tokens were fed, and the arguments with a comma between them.
+fn check<R: Abort>(
+    rt: &R,
+    alloc: Global,
+    params: &[Tok],
+    call: &[u8],
+    answer: Match,
+    count: usize,
+    arguments: &[u8],
+) -> Result<(), Fail>
+    requires { IsParameterText params.now }
+{
+    let mut matching = MacroMatch::new(alloc, params, false, PAR)?;
+    let call = tokens(alloc, call)?;
+    let (last, fed) = fed(&mut matching, call.as_slice());
+    assert_eq!(rt; last, answer);
+    assert_eq!(rt; fed, count);
+    if last == Match::Done {
+        let mut found = Vec::new(alloc);
+        for argument in matching.arguments.as_slice() {
+            if !found.is_empty() {
+                found.push(token(b','))?;
+            }
+            found.extend_from_slice(argument.as_slice())?;
+        }
+        let arguments = tokens(alloc, arguments)?;
+        assert_eq!(rt; found.as_slice(), arguments.as_slice());
+    }
+    Ok(())
+}
+
+#[test]
+fn arguments_without_delimiters(rt: HostRuntime) -> Result<(), Fail> {
+    let params = [Tok::Param(1), Tok::Param(2)];
+    for (call, answer, count, arguments) in [
+        (b"ab".as_slice(), Match::Done, 2, b"a,b".as_slice()),
+        (b" a {b}".as_slice(), Match::Done, 6, b"a,b".as_slice()),
+        (b"{ab}{c}".as_slice(), Match::Done, 7, b"ab,c".as_slice()),
+        (b"{{a}}b".as_slice(), Match::Done, 6, b"{a},b".as_slice()),
+        (b"a{ b}".as_slice(), Match::Done, 5, b"a, b".as_slice()),
+        (b"a}".as_slice(), Match::ExtraBrace, 2, b"".as_slice()),
+        (b"a\n".as_slice(), Match::ParEnded, 2, b"".as_slice()),
+        (b"a{\n".as_slice(), Match::ParEnded, 3, b"".as_slice()),
+        (b"{a".as_slice(), Match::More, 2, b"".as_slice()),
+        (b"a  ".as_slice(), Match::More, 3, b"".as_slice()),
+    ] {
+        check(
+            &rt,
+            rt.alloc(),
+            params.as_slice(),
+            call,
+            answer,
+            count,
+            arguments,
+        )?;
+    }
+    let nine = [
+        Tok::Param(1),
+        Tok::Param(2),
+        Tok::Param(3),
+        Tok::Param(4),
+        Tok::Param(5),
+        Tok::Param(6),
+        Tok::Param(7),
+        Tok::Param(8),
+        Tok::Param(9),
+    ];
+    check(
+        &rt,
+        rt.alloc(),
+        nine.as_slice(),
+        b"abcdefghi",
+        Match::Done,
+        9,
+        b"a,b,c,d,e,f,g,h,i",
+    )?;
+    check(
+        &rt,
+        rt.alloc(),
+        nine.as_slice(),
+        b"abcdefgh",
+        Match::More,
+        8,
+        b"",
+    )
+}
+
+#[test]
+fn arguments_with_delimiters(rt: HostRuntime) -> Result<(), Fail> {
+    let params = [A, Tok::Param(1), B];
+    for (call, answer, count, arguments) in [
+        (b"aab".as_slice(), Match::Done, 3, b"a".as_slice()),
+        (b"ab".as_slice(), Match::Done, 2, b"".as_slice()),
+        (b"a b".as_slice(), Match::Done, 3, b" ".as_slice()),
+        (b"a{b}b".as_slice(), Match::Done, 5, b"b".as_slice()),
+        (b"a{b}cb".as_slice(), Match::Done, 6, b"{b}c".as_slice()),
+        (b"b".as_slice(), Match::NoMatch, 1, b"".as_slice()),
+        (b"\n".as_slice(), Match::NoMatch, 1, b"".as_slice()),
+        (b"a\n".as_slice(), Match::ParEnded, 2, b"".as_slice()),
+        (b"a}".as_slice(), Match::ExtraBrace, 2, b"".as_slice()),
+        (b"ac{b".as_slice(), Match::More, 4, b"".as_slice()),
+    ] {
+        check(
+            &rt,
+            rt.alloc(),
+            params.as_slice(),
+            call,
+            answer,
+            count,
+            arguments,
+        )?;
+    }
+    let alloc = rt.alloc();
+    let blank = [Tok::Param(1), BLANK];
+    check(&rt, alloc, blank.as_slice(), b"ac ", Match::Done, 3, b"ac")?;
+    check(&rt, alloc, blank.as_slice(), b" ", Match::Done, 1, b"")?;
+    check(
+        &rt,
+        alloc,
+        blank.as_slice(),
+        b"{a c} ",
+        Match::Done,
+        6,
+        b"a c",
+    )?;
+    let par = [Tok::Param(1), PAR];
+    check(&rt, alloc, par.as_slice(), b"ac\n", Match::Done, 3, b"ac")?;
+    check(&rt, alloc, par.as_slice(), b"{a\n", Match::ParEnded, 3, b"")?;
+    let brace = [Tok::Param(1), BEGIN];
+    check(&rt, alloc, brace.as_slice(), b"ac{", Match::Done, 3, b"ac")?;
+    check(&rt, alloc, brace.as_slice(), b"{", Match::Done, 1, b"")
 }
 
 #[test]
