@@ -36,6 +36,7 @@ pub enum Tick {
     Went,
     /// The text is used up.
     Done,
+    /// An error ends the region.
     Failed(Error),
     /// A token is there, and no step is left.
     Spent,

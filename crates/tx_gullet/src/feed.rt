@@ -301,6 +301,7 @@ fn opened(wish: Wish, groups: usize, tokens: Vec<Tok>, token: Tok) -> Answer
     if tokens.push(token).is_err() {
         return Answer::Memory;
     }
+    // No more groups are open than there are tokens, and their number fits.
     let _length = tokens.as_slice().len();
     Answer::Goes(Frame::Balanced(
         wish,

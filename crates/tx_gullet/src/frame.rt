@@ -62,6 +62,7 @@ pub(crate) enum Item {
 pub(crate) enum AtEnd {
     /// Main control ends there.
     Done,
+    /// It is an error.
     Wrong(Error),
 }
 
@@ -76,6 +77,7 @@ pub(crate) enum Answer {
     Again,
     /// The reading of a balanced text ends with these tokens.
     Done(Vec<Tok>),
+    /// It is an error.
     Wrong(Error),
     /// Memory was wanting.
     Memory,
