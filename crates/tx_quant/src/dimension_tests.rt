@@ -76,15 +76,40 @@ fn units(rt: HostRuntime) -> Result<(), Fail> {
         ("1cc ", 841_489),
         (".1cc ", 84_154),
         ("1.5cc ", 1_262_233),
+    ] {
+        assert_eq!(rt; dimension(false, text), Feed::Done(value, 0), "{text}");
+    }
+    Ok(())
+}
+
+/// The units that are no fractions of a point, and those of mathematics.
+#[test]
+fn other_units(rt: HostRuntime) -> Result<(), Fail> {
+    for (text, value) in [
         ("1sp ", 1),
+        (".1sp ", 0),
         (".9sp ", 0),
+        ("1.5sp ", 1),
+        ("16383.99999sp ", 16_383),
         ("1em ", 655_360),
+        (".1em ", 65_540),
+        ("1.5em ", 983_040),
+        ("1ex ", -3),
+        (".1ex ", 0),
+        ("16383.99999ex ", -49_151),
         ("- -1.5 TrUe pT ", 98_304),
         ("-1.5ex ", 4),
     ] {
         assert_eq!(rt; dimension(false, text), Feed::Done(value, 0), "{text}");
     }
-    assert_eq!(rt; dimension(true, "1.5mu "), Feed::Done(98_304, 0));
+    for (text, value) in [
+        ("1mu ", 65_536),
+        (".1mu ", 6_554),
+        ("1.5mu ", 98_304),
+        ("16383.99999mu ", 1_073_741_823),
+    ] {
+        assert_eq!(rt; dimension(true, text), Feed::Done(value, 0), "{text}");
+    }
     Ok(())
 }
 
