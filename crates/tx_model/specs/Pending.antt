@@ -15,7 +15,7 @@ pub data Next : Type 0 where
   First : Token → Bool → List Member → Next
   -- there is none; what is left keeps the number of the last line
   Empty : List Member → Next
-  -- a byte that the language does not have yet stands first
+  -- an invalid byte stands first
   Blocked : List Member → Next
 
 -- A text in which no token is left is dropped; the last one stays, for the number of its line.

@@ -6,7 +6,7 @@ use Rattle.tx_model.specs.declared.reply.Status.TheVariants as status
 use Rattle.tx_model.specs.Errors.{error_lines}
 use Rattle.tx_model.specs.Scanner.{opened}
 use Rattle.tx_model.specs.Pending.{Text}
-use Rattle.tx_model.specs.Environment.{Map}
+use Rattle.tx_model.specs.Environment.{Map, Environment}
 use Rattle.tx_model.specs.World.{World, Output}
 use Rattle.tx_model.specs.Moves.{Control}
 use Rattle.tx_model.specs.Reads.{Result, Gave, Failed, Spent, Reads, reads}
@@ -44,8 +44,20 @@ started map text budget = record {
 unfoldable pub outcome_in : ℕ → Map → List ℕ → ℕ → Option Outcome
 outcome_in moves map text budget = option_map outcome_of (reads moves Control [] (started map text budget))
 
--- from the state that this map gives, the text with this budget comes to this outcome
-pub record Region (map : Map) (text : List ℕ) (budget : ℕ) (outcome : Outcome) : Type 0 where
+-- the map of the outermost level
+abbrev pub outermost : Map → Environment → Map
+outermost map [] = map
+outermost map (m ∷ maps) = outermost m maps
+
+-- the state that is left: a region that fails or is spent gives back the one from before it
+abbrev pub left_by : Map → Result → Map
+left_by map (Gave value w) = outermost map w.environment
+left_by map (Failed f) = map
+left_by map (Spent output) = map
+
+-- from the state that this map gives, the text with this budget comes to this outcome and leaves this state
+pub record Region (map : Map) (text : List ℕ) (budget : ℕ) (outcome : Outcome) (after : Map) : Type 0 where
   pub result : Result
   pub run : Reads Control [] (started map text budget) result
   pub is : outcome_of result ≡ outcome
+  pub leaves : left_by map result ≡ after

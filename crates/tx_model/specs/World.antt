@@ -1,7 +1,7 @@
 -- All that a run works on.
 use Rattle.std.specs.Prelude.{ℕ, ℤ, ◌+◌, Bool, false, List, map, ◌++◌, ◌==◌, if◌then◌else◌}
 use Rattle.tx_model.specs.declared.error.Error.{Error}
-use Rattle.tx_model.specs.declared.error.Error.TheVariants.{NotBuilt}
+use Rattle.tx_model.specs.declared.error.Error.TheVariants.{InvalidCharacter}
 use Rattle.tx_model.specs.Tokens.{Token}
 use Rattle.tx_model.specs.Log.{log_line}
 use Rattle.tx_model.specs.Pending.{Member, Single, Next, First, Empty, Blocked, next, line_number}
@@ -44,7 +44,7 @@ pub data Taking : Type 0 where
   Finds-none : World → Taking
   -- a token is there, and no step is left
   Spends : Output → Taking
-  -- no token can be made of what is there
+  -- an invalid byte is there
   Breaks : Failure → Taking
 
 abbrev pub with_pending : List Member → World → World
@@ -70,7 +70,7 @@ taken_from w (First token marked members) =
     if w.output.steps == w.budget then Spends w.output
     else Takes (record { token = token; marked = marked; meaning = meaning_of w.environment token }) (stepped members w)
 taken_from w (Empty members) = Finds-none (with_pending members w)
-taken_from w (Blocked members) = Breaks (failure NotBuilt (with_pending members w))
+taken_from w (Blocked members) = Breaks (failure InvalidCharacter (with_pending members w))
 
 -- the next token, by the present categories
 abbrev pub taking : World → Taking

@@ -3,10 +3,12 @@
 pub enum Error {
     /// A control sequence without a meaning was to be expanded.
     UndefinedControlSequence,
+    /// A byte of category invalid stood where a token was to be taken.
+    InvalidCharacter,
     /// A right brace stood where no group was open.
     TooManyRightBraces,
     /// The text ended where so many groups were open.
     EndedInGroup(usize),
-    /// A command, or a byte's category, that the language does not have yet.
+    /// A command that the language does not have yet.
     NotBuilt,
 }

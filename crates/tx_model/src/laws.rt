@@ -12,7 +12,8 @@ pub fn one_end()
     ensures { (k : Kind) (items : List Item) (w : World) (r s : Result) → Reads k items w r → Reads k items w s → r ≡ s }
 {}
 
-/// A region has one outcome at the most.
+/// A region has one outcome at the most, and leaves one state.
 pub fn one_outcome()
-    ensures { (map : Map) (text : List ℕ) (budget : ℕ) (o p : Outcome) → Region map text budget o → Region map text budget p → o ≡ p }
+    ensures { (map : Map) (text : List ℕ) (budget : ℕ) (o p : Outcome) (a b : Map) → Region map text budget o a → Region map text budget p b → (o ≡ p) × (a ≡ b) }
 {}
+

@@ -18,11 +18,11 @@ pub fn regions_that_are_spent()
     ensures { Comes (92 ∷ codes "relax" ++ 92 ∷ codes "relax") 1 (codes "SPENT 1 0 0 0" ++ 10 ∷ []) }
 {}
 
-/// Errors, with the step of the token at fault and the number of its line. A byte of a category that
-/// isn't built costs no step.
+/// Errors, with the step of the token at fault and the number of its line. An invalid byte costs no step.
 pub fn regions_that_fail()
     ensures letter { Comes (codes "x") 1000 (codes "FAIL 1 0 0 37" ++ 10 ∷ codes "! This command is not built yet." ++ 10 ∷ codes "l.1" ++ 10 ∷ []) }
-    ensures byte { Comes (codes "%") 1000 (codes "FAIL 0 0 0 37" ++ 10 ∷ codes "! This command is not built yet." ++ 10 ∷ codes "l.1" ++ 10 ∷ []) }
+    ensures byte { Comes (127 ∷ []) 1000 (codes "FAIL 0 0 0 47" ++ 10 ∷ codes "! Text line contains an invalid character." ++ 10 ∷ codes "l.1" ++ 10 ∷ []) }
+    ensures byte_in_name { Comes (10 ∷ 92 ∷ codes "relax^^7f") 1000 (codes "FAIL 2 0 0 47" ++ 10 ∷ codes "! Text line contains an invalid character." ++ 10 ∷ codes "l.2" ++ 10 ∷ []) }
     ensures name { Comes (10 ∷ 10 ∷ 92 ∷ codes "zz") 1000 (codes "FAIL 3 0 0 34" ++ 10 ∷ codes "! Undefined control sequence." ++ 10 ∷ codes "l.3" ++ 10 ∷ []) }
 {}
 
@@ -50,4 +50,16 @@ pub fn groups()
     ensures none_open { Comes (codes "}") 1000 (codes "FAIL 1 0 0 20" ++ 10 ∷ codes "! Too many }'s." ++ 10 ∷ codes "l.1" ++ 10 ∷ []) }
     ensures left_open { Comes (codes "{") 1000 (codes "FAIL 2 0 0 46" ++ 10 ∷ codes "! Region ended inside a group at level 1." ++ 10 ∷ codes "l.1" ++ 10 ∷ []) }
     ensures two_left_open { Comes (codes "{" ++ 10 ∷ codes "{") 1000 (codes "FAIL 4 0 0 46" ++ 10 ∷ codes "! Region ended inside a group at level 2." ++ 10 ∷ codes "l.2" ++ 10 ∷ []) }
+{}
+
+/// Bytes that two superscripts write, in a text, in a name and as what they write again; comments, and
+/// bytes that are ignored.
+pub fn bytes_of_lines()
+    ensures hex { Comes (92 ∷ codes "message{^^41^^J}") 1000 (codes "DONE 6 0 0 5" ++ 10 ∷ codes "A^^J" ++ 10 ∷ []) }
+    ensures invalid { Comes (codes "^^7f") 1000 (codes "FAIL 0 0 0 47" ++ 10 ∷ codes "! Text line contains an invalid character." ++ 10 ∷ codes "l.1" ++ 10 ∷ []) }
+    ensures in_name { Comes (codes "^^5crel^^61x") 1000 (codes "DONE 1 0 0 0" ++ 10 ∷ []) }
+    ensures again { Comes (92 ∷ codes "message{^^5e^41^}") 1000 (codes "DONE 6 0 0 3" ++ 10 ∷ codes "A^" ++ 10 ∷ []) }
+    ensures ignored { Comes (0 ∷ 92 ∷ codes "relax" ++ 0 ∷ 32 ∷ 0 ∷ []) 1 (codes "DONE 1 0 0 0" ++ 10 ∷ []) }
+    ensures comment { Comes (92 ∷ codes "relax% " ++ 92 ∷ codes "zz" ++ 10 ∷ 92 ∷ codes "relax") 1000 (codes "DONE 2 0 0 0" ++ 10 ∷ []) }
+    ensures characters { Comes (92 ∷ codes "message{$&#_^~}") 1000 (codes "DONE 10 0 0 8" ++ 10 ∷ codes "$&##_^~" ++ 10 ∷ []) }
 {}

@@ -18,3 +18,7 @@ returns-clause-byte c = refl
 pub returns-clause-name : goal.returns-clause-name
 unfolding scanned next move_in reads outcome_in digits
 returns-clause-name c = refl
+
+pub returns-clause-byte_in_name : goal.returns-clause-byte_in_name
+unfolding scanned next move_in reads outcome_in digits
+returns-clause-byte_in_name c = refl
