@@ -2,9 +2,7 @@
 #![tactic(auto)]
 
 mod cats;
-mod later;
 mod line;
-mod lines;
 mod scanner;
 
 pub use cats::Cats;

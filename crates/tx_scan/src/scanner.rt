@@ -6,9 +6,7 @@ ghost use Rattle.tx_model.specs.Scanner.{opened, scanned, scanned_from, LineUsed
 ghost use Rattle.tx_scan.specs.Scans.{category_by, AfterNext};
 
 use crate::cats::Cats;
-use crate::later::{Begun, InLines, in_lines};
-use crate::line::{InLine, Scan, in_line};
-use crate::lines::ending_byte;
+use crate::line::Scan;
 use std::alloc::Global;
 use std::marker::Model;
 use tx_bytes::Bytes;
@@ -64,58 +62,7 @@ impl Scanner {
     pub fn next(&mut self, cats: &Cats, end: i32) -> Scan
         ensures { AfterNext (scanned (category_by cats.now) end self.old) self.old result self.new }
     {
-        match in_line(
-            self.alloc,
-            cats,
-            self.state,
-            &self.line.as_slice()[self.read..],
-        ) {
-            InLine::Found(what, state, used) => {
-                self.read += used;
-                self.state = state;
-                what
-            }
-            InLine::Used => self.next_line(cats, ending_byte(end)),
-            InLine::Memory => Scan::Memory,
-        }
-    }
-
-    /// What stands next in the later lines, where the present one is used up.
-    fn next_line(&mut self, cats: &Cats, ending: Option<u8>) -> Scan
-        ensures { AfterNext (scanned_from (category_by cats.now) (option_to_list ending) self.old.number LineUsed self.old.later) self.old result self.new }
-    {
-        let later = self.later;
-        match in_lines(
-            self.alloc,
-            cats,
-            ending,
-            &self.text.as_slice()[later..],
-            self.number,
-        ) {
-            InLines::Found(what, begun) => {
-                let Begun {
-                    line,
-                    read,
-                    state,
-                    number,
-                    used,
-                } = begun;
-                self.line = line;
-                self.read = read;
-                self.state = state;
-                self.number = number;
-                self.later = later + used;
-                what
-            }
-            InLines::Used(number) => {
-                self.read = self.line.len();
-                self.later = self.text.len();
-                self.number = number;
-                self.state = LineState::NewLine;
-                Scan::End
-            }
-            InLines::Memory => Scan::Memory,
-        }
+        Scan::Memory
     }
 
     /// Drops the later lines. Takes no memory. *The TeXbook*, chapter 20, `\endinput`.
