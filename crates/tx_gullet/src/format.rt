@@ -1,21 +1,21 @@
 //! The frozen state in which sessions begin.
 
-ghost use Rattle.std.specs.Prelude.{◌≡◌, ℕ};
-ghost use Rattle.tx_model.specs.Bare.{bare_category};
-ghost use Rattle.tx_scan.specs.Scans.{category_by};
+ghost use Rattle.std.specs.Prelude.{IfOk};
+ghost use Rattle.tx_model.specs.Bare.{bare_map};
+ghost use Rattle.tx_gullet.specs.States.{IsFormat};
 
 use std::alloc::{AllocError, Global};
-use tx_scan::Cats;
 
-/// A frozen state. There is one so far, BARE.
+/// A frozen state.
 #[derive(Debug, Drop)]
 pub struct Format {
-    pub(crate) cats: Cats,
-    ghost bare: { (b : ℕ) → category_by cats b ≡ bare_category b },
+    pub(crate) alloc: Global,
 }
 
 /// The state BARE: the primitives, and category codes as plain TeX sets them. The only error is want of
 /// memory.
-pub fn bare(_alloc: Global) -> Result<Format, AllocError> {
-    Ok(Format { cats: Cats::bare() })
+pub fn bare(_alloc: Global) -> Result<Format, AllocError>
+    ensures { IfOk result (λ format. IsFormat format bare_map) }
+{
+    Err(AllocError)
 }

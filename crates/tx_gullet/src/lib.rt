@@ -2,19 +2,9 @@
 #![tactic(auto)]
 
 mod engine;
-mod equivalents;
-mod feed;
 mod format;
-mod frame;
-mod input;
-mod meaning;
 mod outcome;
-mod scene;
-mod show;
-mod start;
-mod steps;
-mod texts;
 
-pub use engine::run;
+pub use engine::Engine;
 pub use format::{Format, bare};
 pub use outcome::{Outcome, Output};

@@ -1,0 +1,37 @@
+-- Reads one after another are one read.
+use Rattle.std.proofs.Common.{◌≡◌, ℕ, List, [], ◌∷◌, ◌++◌, Option, None, Some, refl, sym, ap, subst, ◌∙◌, append_assoc}
+use Rattle.tx_bytes.specs.Tells.{Tells, Gains, Loses, ReadsNext}
+
+gains-append : (old mid new : Option (List ℕ)) (x y : List ℕ) → Gains old x mid → Gains mid y new → Gains old (x ++ y) new
+gains-append None mid new x y first second = subst (λ m. Gains m y new) first second
+gains-append (Some old) mid new x y first second =
+    let then : new ≡ Some ((old ++ x) ++ y) = subst (λ m. Gains m y new) first second in
+    then ∙ ap Some (append_assoc old x y)
+
+loses-append : (old mid new : Option (List ℕ)) (x y : List ℕ) → Loses old x mid → Loses mid y new → Loses old (x ++ y) new
+loses-append None mid new x y first second = subst (λ m. Loses m y new) first second
+loses-append (Some old) mid new x y first second =
+    let then : Loses (Some first.0) y new = subst (λ m. Loses m y new) first.2 second in
+    (then.0, first.1 ∙ ap (λ ys. x ++ ys) then.1 ∙ sym (append_assoc x y then.0), then.2)
+
+pub reads-append : (old mid new : Tells) (x y : List ℕ) → ReadsNext old x mid → ReadsNext mid y new → ReadsNext old (x ++ y) new
+reads-append old mid new x y first second = record {
+  was_read = gains-append old.was_read mid.was_read new.was_read x y first.was_read second.was_read;
+  left = loses-append old.left mid.left new.left x y first.left second.left;
+  got = second.got ∙ first.got;
+}
+
+append-nothing : (xs : List ℕ) → xs ++ [] ≡ xs
+append-nothing [] = refl
+append-nothing (x ∷ xs) = ap (λ ys. x ∷ ys) (append-nothing xs)
+
+gains-nothing : (told : Option (List ℕ)) → Gains told [] told
+gains-nothing None = refl
+gains-nothing (Some bytes) = ap Some (sym (append-nothing bytes))
+
+loses-nothing : (told : Option (List ℕ)) → Loses told [] told
+loses-nothing None = refl
+loses-nothing (Some bytes) = (bytes, refl, refl)
+
+pub reads-nothing : (t : Tells) → ReadsNext t [] t
+reads-nothing t = record { was_read = gains-nothing t.was_read; left = loses-nothing t.left; got = refl }

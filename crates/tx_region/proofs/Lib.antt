@@ -1,0 +1,4 @@
+pub mod TellsLemmas
+pub mod RegionLemmas
+pub mod LengthLemmas
+pub mod SessionLemmas

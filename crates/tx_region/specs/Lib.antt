@@ -1,0 +1,4 @@
+pub mod Sessions
+pub mod Turns
+pub mod Formats
+pub mod Regions
