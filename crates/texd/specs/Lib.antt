@@ -1,4 +1,2 @@
-pub mod Input
-pub mod Reply
-pub mod Once
+pub mod Files
 pub mod Top

@@ -1,22 +1,21 @@
 //! texd: a resident TeX.
 //!
-//! `texd once` reads one region from standard input, typesets it and writes the reply. The call `texd`
+//! `texd once` reads regions from standard input, typesets them and writes their replies. The call `texd`
 //! does all of it; `main` hands in the real outside.
 #![tactic(auto)]
 
-mod frames;
-mod input;
-mod once;
-mod replies;
+mod early;
+mod files;
 #[cfg(test)]
 mod tests;
 mod top;
+mod words;
 
 use crate::top::{ExitStatus, texd};
 use std::alloc::AllocError;
 use std::env;
 use std::process::ExitCode;
-use tx_bytes::{File, Files, MemPort, MemShelf, NoGate, StdSink, StdSource, Word};
+use tx_bytes::{MemPort, NoGate, StdShelf, StdSink, StdSource, Word};
 
 /// The words of the command line, without the program's name. Words that are no text are an error of
 /// their own, which no command takes.
@@ -39,12 +38,7 @@ fn main(rt: HostRuntime) -> ExitCode {
         Ok(words) => words,
         Err(status) => return ExitCode::from(status as u8),
     };
-    let mut shelf = MemShelf::new(
-        Files {
-            entries: Vec::new(alloc),
-        },
-        Vec::new(alloc),
-    );
+    let mut shelf = StdShelf::new(&rt);
     let mut port = MemPort::new(alloc, Vec::new(alloc), Vec::new(alloc));
     let mut input = StdSource::new(rt.stdin());
     let mut output = StdSink::new(rt.stdout());

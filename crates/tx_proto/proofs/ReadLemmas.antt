@@ -1,6 +1,6 @@
 -- Reads one after another are one read.
-use Rattle.std.proofs.Common.{◌≡◌, ℕ, List, [], ◌∷◌, ◌++◌, Option, None, Some, refl, sym, ap, subst, ◌∙◌, append_assoc}
-use Rattle.tx_bytes.specs.Tells.{Tells, Gains, Loses, ReadsNext}
+use Rattle.std.proofs.Common.{◌≡◌, ℕ, ◌≤◌, arith, List, [], ◌∷◌, ◌++◌, Option, None, Some, refl, sym, ap, subst, ◌∙◌, append_assoc}
+use Rattle.tx_bytes.specs.Tells.{Tells, Gains, Loses, ReadsNext, Stays, HasRisen}
 
 gains-append : (old mid new : Option (List ℕ)) (x y : List ℕ) → Gains old x mid → Gains mid y new → Gains old (x ++ y) new
 gains-append None mid new x y first second = subst (λ m. Gains m y new) first second
@@ -35,3 +35,19 @@ loses-nothing (Some bytes) = (bytes, refl, refl)
 
 pub reads-nothing : (t : Tells) → ReadsNext t [] t
 reads-nothing t = record { was_read = gains-nothing t.was_read; left = loses-nothing t.left; got = refl }
+
+-- nothing was moved after a read
+pub reads-stays : (old mid new : Tells) (x : List ℕ) → ReadsNext old x mid → Stays mid new → ReadsNext old x new
+reads-stays old mid new x next stays = record {
+  was_read = subst (λ told. Gains old.was_read x told) (sym stays.was_read) next.was_read;
+  left = subst (λ told. Loses old.left x told) (sym stays.left) next.left;
+  got = stays.got ∙ next.got;
+}
+
+-- a read that took nothing, after another one
+pub reads-no-more : (old mid new : Tells) (x : List ℕ) → ReadsNext old x mid → ReadsNext mid [] new → ReadsNext old x new
+reads-no-more old mid new x next none = subst (λ bytes. ReadsNext old bytes new) (append-nothing x) (reads-append old mid new x [] next none)
+
+-- a count that rose later rose from before
+pub rises-later : (old mid new : Tells) → old.faults ≤ mid.faults → HasRisen mid.faults new.faults → HasRisen old.faults new.faults
+rises-later old mid new grows rises = (omega (arith, rises.0), omega (arith, rises.1))

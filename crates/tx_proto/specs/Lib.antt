@@ -1,3 +1,5 @@
 pub mod Parts
 pub mod Requests
+pub mod Headers
+pub mod Texts
 pub mod Written

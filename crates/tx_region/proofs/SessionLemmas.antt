@@ -9,6 +9,7 @@ use Rattle.tx_proto.specs.declared.requests.EndBy.{EndBy}
 use Rattle.tx_proto.specs.declared.requests.EndBy.TheVariants as end
 use Rattle.tx_proto.specs.declared.requests.Got.TheVariants as got
 use Rattle.tx_proto.specs.Requests.{AfterRequest, IsAtEnd}
+use Rattle.tx_proto.proofs.BreakLemmas.{breaks-behind}
 use Rattle.tx_gullet.specs.declared.engine.Engine.{Engine}
 use Rattle.tx_region.specs.declared.once.Run.{Run}
 use Rattle.tx_region.specs.declared.once.Run.TheVariants as run
@@ -16,6 +17,10 @@ use Rattle.tx_region.specs.Sessions.{most_regions, Tail, Nothing, ByeLine, Unans
 use Rattle.tx_proto.specs.declared.replies.Sent.TheVariants as sent
 use Rattle.tx_region.specs.Turns.{Serves, AfterClosing}
 use Rattle.tx_region.proofs.TellsLemmas.{reads-append, writes-append, writes-nothing, risen-after, stays-same}
+
+append-nothing : (xs : List ℕ) → xs ++ [] ≡ xs
+append-nothing [] = refl
+append-nothing (x ∷ xs) = ap (λ ys. x ∷ ys) (append-nothing xs)
 
 -- a session that answers no frame
 pub alone : (had before : ℕ) (map : Map) (tail : Tail) (input_old input_new old new : Tells) (r : Run) → had ≤ most_regions → ReadsNext input_old (tail_bytes tail) input_new → HasCause had before [] tail input_new → Writing r tail input_new (due [] tail) old new → HasFault r input_old input_new old new → GoesOn had before map input_old input_new old r new
@@ -35,9 +40,28 @@ alone had before map tail input_old input_new old new r few reads cause writing 
   fault = fault;
 }
 
+behind-frame : (r : Request) (bytes : List ℕ) (place : ℕ) → IsLawful r → BreaksAt bytes place → BreaksAt (frame r ++ bytes) (length (frame r) + place)
+behind-frame r bytes place lawful b =
+    subst (λ f. BreaksAt (f ++ bytes) (length f + place)) (append-nothing (frame r)) (breaks-behind (r ∷ []) bytes place (lawful, tt) b)
+
 -- What breaks a session behind a frame breaks the session with it.
 breaks-one-more : (r : Request) (before : ℕ) (bytes : List ℕ) (place : ℕ) (input : Tells) → IsLawful r → BreaksSession (before + length (frame r)) bytes place input → BreaksSession before (frame r ++ bytes) place input
-breaks-one-more r before bytes place input lawful b = ?
+breaks-one-more r before bytes place input lawful b = record {
+  within = length (frame r) + b.within;
+  at = b.at ∙ assoc before (length (frame r)) b.within;
+  breaks = behind-frame r bytes b.within lawful b.breaks;
+  to = later b.to;
+}
+  where
+    assoc : (x y z : ℕ) → x + y + z ≡ x + (y + z)
+    assoc x y z = omega arith
+
+    long : length (frame r ++ bytes) ≡ length (frame r) + length bytes
+    long = length-append (frame r) bytes
+
+    later : (length bytes ≡ b.within + 1) ⊎ ((length bytes ≡ b.within) × IsAtEnd input) → (length (frame r ++ bytes) ≡ length (frame r) + b.within + 1) ⊎ ((length (frame r ++ bytes) ≡ length (frame r) + b.within) × IsAtEnd input)
+    later (inl e) = inl (omega (arith, long, e))
+    later (inr e) = inr (omega (arith, long, e.0), e.1)
 
 cause-one-more : (r : Request) (had before : ℕ) (requests : List Request) (tail : Tail) (input : Tells) → IsLawful r → HasCause (had + 1) (before + length (frame r)) requests tail input → HasCause had before (r ∷ requests) tail input
 cause-one-more r had before requests Nothing input lawful c = tt
@@ -82,10 +106,6 @@ one-more had before len map input_old input_mid input_new old mid new engine r s
       writing = writing-one-more r at.tail input_new (reply_bytes s.reply) (due at.replies at.tail) old mid new s.writes at.writing;
       fault = fault-one-more r input_old input_mid input_new old mid new s.input_grows s.output_grows at.fault;
     }
-
-append-nothing : (xs : List ℕ) → xs ++ [] ≡ xs
-append-nothing [] = refl
-append-nothing (x ∷ xs) = ap (λ ys. x ∷ ys) (append-nothing xs)
 
 -- memory was wanting, and nothing was written
 pub wants-memory : (had before : ℕ) (map : Map) (bytes : List ℕ) (input_old input_new old new : Tells) → had ≤ most_regions → ReadsNext input_old bytes input_new → Stays old new → GoesOn had before map input_old input_new old run.Memory new

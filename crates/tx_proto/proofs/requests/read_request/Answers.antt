@@ -1,7 +1,5 @@
-use Rattle.std.proofs.Common.{refl, [], inr}
-use Rattle.tx_model.specs.Frames.{bye}
-use Rattle.tx_proto.proofs.ReadLemmas.{reads-nothing}
+use Rattle.tx_proto.proofs.LineLemmas.{body-read}
 use Rattle.tx_proto.proofs.requests.read_request.Goals as goal
 
-pub returns-clause-read : goal.returns-clause-read
-returns-clause-read c d = ([], reads-nothing _, (bye, inr refl))
+pub returns-in-Header-clause-read : goal.returns-in-Header-clause-read
+returns-in-Header-clause-read g c = body-read _ _ _ c.args.at c.in-Header.header c.read_body.result c.in-Header.ensures.line c.read_line.ensures.grows c.read_body.ensures.body
