@@ -19,12 +19,12 @@ use tx_bytes::{MemPort, NoGate, StdShelf, StdSink, StdSource, Word};
 
 /// The words of the command line, without the program's name. Words that are no text are an error of
 /// their own, which no command takes.
-fn words(rt: &HostRuntime) -> Result<Vec<Word>, ExitStatus> {
-    let Ok(arguments) = env::args(rt) else {
+fn arguments(rt: &HostRuntime) -> Result<Vec<Word>, ExitStatus> {
+    let Ok(all) = env::args(rt) else {
         return Err(ExitStatus::Refused);
     };
     let mut words = Vec::new(rt.alloc());
-    for argument in arguments.skip(1) {
+    for argument in all.skip(1) {
         if words.push(Word::new(argument)).is_err() {
             return Err(ExitStatus::Memory);
         }
@@ -34,7 +34,7 @@ fn words(rt: &HostRuntime) -> Result<Vec<Word>, ExitStatus> {
 
 fn main(rt: HostRuntime) -> ExitCode {
     let alloc = rt.alloc();
-    let words = match words(&rt) {
+    let words = match arguments(&rt) {
         Ok(words) => words,
         Err(status) => return ExitCode::from(status as u8),
     };
