@@ -38,11 +38,7 @@ enum Fetched {
 
 /// Reads the files of these names, one after another, of which each may have 16 MiB and all together
 /// 256 MiB.
-pub fn read_files<S: Shelf>(
-    alloc: Global,
-    shelf: &mut S,
-    names: &[Word],
-) -> Result<Files, Unread>
+pub fn read_files<S: Shelf>(alloc: Global, shelf: &mut S, names: &[Word]) -> Result<Files, Unread>
     requires { length names.now ≤ 256 }
     ensures files { AfterFiles (S.tells shelf.old) names.now result (S.tells shelf.new) }
     ensures stays { (S.tells shelf.new).files ≡ (S.tells shelf.old).files }

@@ -168,11 +168,7 @@ fn stop<O: Sink>(alloc: Global, names: &[Word], unread: Unread, output: &mut O) 
 }
 
 /// Ends the program with a line, if there was memory for it.
-fn end<O: Sink>(
-    output: &mut O,
-    line: Result<Vec<u8>, AllocError>,
-    status: ExitStatus,
-) -> ExitStatus
+fn end<O: Sink>(output: &mut O, line: Result<Vec<u8>, AllocError>, status: ExitStatus) -> ExitStatus
     ensures { (bytes : List ℕ) → IfOk line (λ l. l.items ≡ bytes) → AfterLine bytes (O.tells output.old) status result (O.tells output.new) }
 {
     let Ok(line) = line else {
