@@ -1,0 +1,9 @@
+pub mod LevelLemmas
+pub mod UndoLemmas
+pub mod PieceLemmas
+pub mod SceneLemmas
+pub mod ShowLemmas
+pub mod OpenLemmas
+pub mod RunLemmas
+pub mod StateLemmas
+pub mod StartLemmas

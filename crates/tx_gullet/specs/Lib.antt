@@ -1,2 +1,10 @@
 pub mod Outcomes
+pub mod Meanings
+pub mod Levels
+pub mod Pieces
+pub mod Spent
+pub mod Scenes
+pub mod Frames
+pub mod Opens
 pub mod States
+pub mod Runs

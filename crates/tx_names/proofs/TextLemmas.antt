@@ -1,18 +1,18 @@
 -- The texts of a table and their numbers.
-use Rattle.std.proofs.Common.{◌≡◌, ℕ, suc, ◌+◌, ◌-◌, ◌≤◌, ◌<◌, Bool, true, false, cond, eqb, nat_lt, List, [], ◌∷◌, ◌++◌, map, length, get_or, position, Option, Some, None, Result, Ok, Err, IfOk, OnOk, if◌then◌else◌, not, refl, sym, ◌∙◌, ap, inl, inr, arith, length-append, ◌||◌}
-use Rattle.std.specs.List.{prefix_len, position_or_len, list_any, AllByRecursion, IsDistinct as Differ}
+use Rattle.std.proofs.Common.{◌≡◌, ◌≢◌, ℕ, suc, ◌+◌, ◌-◌, ◌≤◌, ◌<◌, Bool, true, false, cond, eqb, nat_lt, List, [], ◌∷◌, ◌++◌, map, length, get_or, position, Option, Some, None, Result, Ok, Err, IfOk, OnOk, if◌then◌else◌, not, take, refl, sym, ◌∙◌, ap, subst, inl, inr, arith, length-append, ◌||◌}
+use Rattle.std.specs.List.{prefix_len, position_or_len, list_any, AllByRecursion, AllZip, IsDistinct as Differ}
 use Rattle.std.specs.Option.{option_map}
 use Rattle.std.specs.Str.{bytes_eq}
 use Rattle.std.proofs.lemmas.Bool.{cases_lt}
 use Rattle.std.proofs.lemmas.Bool.Decides.{nat_tests}
-use Rattle.std.proofs.lemmas.List.{length-map, map-append}
+use Rattle.std.proofs.lemmas.List.{length-map, map-append, length-take, take-take, take_all, take_at, take-map}
 use Rattle.std.proofs.lemmas.List.Folds.{position_or_len_push}
 use Rattle.std.proofs.lemmas.List.Sums.{prefix_len-le-length}
 use Rattle.std.proofs.lemmas.List.Quantifiers.{position-Some}
 use Rattle.std.proofs.lemmas.Map.Made.{AllPairs-from_IsDistinct}
 use Rattle.std.proofs.lemmas.Slice.Eq.{bytes_eq-Decides}
 use Rattle.indexmap.specs.IndexSet.{insert_key}
-use Rattle.tx_names.specs.Names.{Names, HasNumber, text_at, number_of, with_text, IsDistinct, Naming, Agrees}
+use Rattle.tx_names.specs.Names.{Names, HasNumber, text_at, number_of, with_text, first_texts, Extends, IsDistinct, Naming, Agrees}
 
 -- the first place whose image passes a test
 prefix_len-map : {X Y : Type 0} (f : X → Y) (p : Y → Bool) (xs : List X) → prefix_len p (map f xs) ≡ prefix_len (λ x. p (f x)) xs
@@ -105,6 +105,42 @@ no_number_no_place : (first : ℕ) (place : Option ℕ) → option_map (λ i. fi
 no_number_no_place first None e = refl
 no_number_no_place first (Some i) e = cc
 
+-- clones whose images are the same
+pub map-clones : {X Y : Type 0} (f : X → Y) (R : X → X → Type 0) → ((x y : X) → R x y → f y ≡ f x) → (xs ys : List X) → AllZip R xs ys → map f ys ≡ map f xs
+map-clones f R same [] [] h = refl
+map-clones f R same [] (y ∷ ys) h = absurd h
+map-clones f R same (x ∷ xs) [] h = absurd h
+map-clones f R same (x ∷ xs) (y ∷ ys) h = ap (λ z. z ∷ map f ys) (same x y h.0) ∙ ap (λ zs. f x ∷ zs) (map-clones f R same xs ys h.1)
+
+-- What a table extends.
+pub extends-itself : (names : Names) → Extends names names
+extends-itself names = ap (λ (ts : List (List ℕ)). let t : Names = record { first = names.first; texts = ts } in t) (take_all (length names.texts) names.texts (omega arith))
+
+pub extends-with-text : (names : Names) (text : List ℕ) → Extends names (with_text text names)
+extends-with-text names text = ap (λ (ts : List (List ℕ)). let t : Names = record { first = names.first; texts = ts } in t) (take_at names.texts (text ∷ []) (length names.texts) refl)
+
+pub extends-through : (old mid new : Names) → Extends old mid → Extends mid new → Extends old new
+extends-through old mid new e f =
+    let shorter : length old.texts ≤ length mid.texts = at-most (length old.texts) mid.texts old.texts (ap (λ t. t.texts) e) in
+    let same : take (length old.texts) new.texts ≡ take (length old.texts) mid.texts = sym (take-take (length old.texts) (length mid.texts) new.texts shorter) ∙ ap (λ t. take (length old.texts) t.texts) f in
+    ap (λ (ts : List (List ℕ)). let t : Names = record { first = new.first; texts = ts } in t) same
+    ∙ ap (λ (n : ℕ). let t : Names = record { first = n; texts = take (length old.texts) mid.texts } in t) (ap (λ t. t.first) f)
+    ∙ e
+  where
+    at-most : {X : Type 0} (n : ℕ) (xs ys : List X) → take n xs ≡ ys → length ys ≤ length xs
+    at-most n xs ys e =
+        let taken = length-take n xs in
+        let len : length (take n xs) ≡ length ys = ap length e in
+        omega arith
+
+-- after a text was looked for, and joined where it wasn't there
+pub extends-by-intern : (old new : Names) (text : List ℕ) → (number_of old text ≢ None → new ≡ old) → (number_of old text ≡ None → new ≡ with_text text old) → Extends old new
+extends-by-intern old new text present absent = by-number (number_of old text) refl
+  where
+    by-number : (o : Option ℕ) → number_of old text ≡ o → Extends old new
+    by-number None e = subst (Extends old) (sym (absent e)) (extends-with-text old text)
+    by-number (Some n) e = subst (Extends old) (sym (present (λ none. cc))) (extends-itself old)
+
 -- a table over elements that are seen through f
 module _ {X : Type 0} (f : X → List ℕ) (first : ℕ) where
   abbrev table_of : List X → Names
@@ -115,6 +151,13 @@ module _ {X : Type 0} (f : X → List ℕ) (first : ℕ) where
 
   pub distinct-map : (xs : List X) → Differ (λ x y. bytes_eq (f x) (f y)) xs → IsDistinct (table_of xs)
   distinct-map xs differ = distinct_from_differ first (map f xs) (differ-map f bytes_eq xs differ)
+
+  -- the first elements, and clones
+  pub truncated : (len : ℕ) (xs new : List X) → new ≡ take len xs → table_of new ≡ first_texts len (table_of xs)
+  truncated len xs new e = ap (λ (ts : List (List ℕ)). let t : Names = record { first = first; texts = ts } in t) (ap (map f) e ∙ sym (take-map f len xs))
+
+  pub table-cloned : (R : X → X → Type 0) → ((x y : X) → R x y → f y ≡ f x) → (xs ys : List X) → AllZip R xs ys → table_of ys ≡ table_of xs
+  table-cloned R same xs ys zip = ap (λ (ts : List (List ℕ)). let t : Names = record { first = first; texts = ts } in t) (map-clones f R same xs ys zip)
 
   -- an element with a new text goes last
   inserted_last : (xs : List X) (x : X) → number_of (table_of xs) (f x) ≡ None → insert_key (λ a b. bytes_eq (f a) (f b)) xs x ≡ xs ++ x ∷ []

@@ -1,5 +1,5 @@
 -- Names and their numbers.
-use Rattle.std.specs.Prelude.{◌≡◌, ℕ, ◌+◌, ◌-◌, ◌≤◌, ◌<◌, List, [], ◌∷◌, ◌++◌, length, get_or, position, Option}
+use Rattle.std.specs.Prelude.{◌≡◌, ℕ, ◌+◌, ◌-◌, ◌≤◌, ◌<◌, List, [], ◌∷◌, ◌++◌, length, get_or, take, position, Option}
 use Rattle.std.specs.Option.{option_map}
 use Rattle.std.specs.Str.{bytes_eq}
 
@@ -21,6 +21,14 @@ number_of names text = option_map (λ place. names.first + place) (position (byt
 
 abbrev pub with_text : List ℕ → Names → Names
 with_text text names = record { first = names.first; texts = names.texts ++ text ∷ [] }
+
+-- the table of its first texts, so many or all
+abbrev pub first_texts : ℕ → Names → Names
+first_texts len names = record { first = names.first; texts = take len names.texts }
+
+-- the new table has the texts of the old one, with the same numbers
+abbrev pub Extends : Names → Names → Type 0
+Extends old new = first_texts (length old.texts) new ≡ old
 
 -- no text stands in it twice
 abbrev pub IsDistinct : Names → Type 0

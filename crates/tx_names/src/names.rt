@@ -1,14 +1,14 @@
 //! The table of names.
 
 ghost use Rattle.std.specs.Prelude.{◌≡◌, ◌≢◌, ◌+◌, ◌<◌, ◌^◌, ◌≤◌, ◌↔◌, [], Some, None, length, IsTrue, OnOk, OnErr, IfOk};
-ghost use Rattle.tx_names.specs.Names.{HasNumber, text_at, number_of, with_text, IsDistinct, Naming, Agrees, NamingOf};
+ghost use Rattle.tx_names.specs.Names.{HasNumber, text_at, number_of, with_text, first_texts, Extends, IsDistinct, Naming, Agrees, NamingOf};
 
 use indexmap::IndexSet;
 use std::alloc::{AllocError, Global};
 use std::marker::Model;
 
-/// A table of distinct texts that only grows, numbered in their order from a first number on. *TeX: The
-/// Program*, part 18.
+/// A table of distinct texts, numbered in their order from a first number on. It grows, and gives back the
+/// latest texts. *TeX: The Program*, part 18.
 #[derive(Debug, Drop)]
 pub struct NameTable {
     first: u64,
@@ -44,6 +44,7 @@ impl NameTable {
         ensures absent { OnOk result (number_of self.old text.now ≡ None → self.new ≡ with_text text.now self.old) }
         ensures agrees { IfOk result (λ n. (naming : Naming) → Agrees naming self.new → (naming n ≡ text.now) × Agrees naming self.old) }
         ensures err { OnErr result (self.new ≡ self.old) }
+        ensures extends { Extends self.old self.new }
     {
         if let Some(number) = self.find(text) {
             return Ok(number);
@@ -68,6 +69,14 @@ impl NameTable {
     {
         let place = (number - self.first) as usize;
         self.texts.as_slice()[place].as_slice()
+    }
+
+    /// Keeps the first `len` texts, and drops the others. A table that has no more stays as it is. It takes
+    /// no memory.
+    pub fn truncate(&mut self, len: u64)
+        ensures { self.new ≡ first_texts len self.old }
+    {
+        self.texts.truncate(len as usize);
     }
 
     /// How many texts the table has.
@@ -109,6 +118,20 @@ impl NameTable {
     }
 }
 
+impl Clone for NameTable {
+    // A clone is the same table.
+    ghost is_clone = { λ table copy. copy ≡ table };
+
+    /// The same table once more. The only error is want of memory.
+    fn clone(&self) -> Result<Self, AllocError> {
+        let texts = self.texts.clone()?;
+        Ok(NameTable {
+            first: self.first,
+            texts,
+        })
+    }
+}
+
 #[cfg(test)]
 mod tests {
     use super::*;
@@ -127,6 +150,21 @@ mod tests {
         let number = table.find(b"par").ok_or("absent")?;
         assert!(rt; number == 6);
         assert!(rt; table.text(number) == b"par".as_slice());
+        Ok(())
+    }
+
+    #[test]
+    fn latest_texts_given_back(rt: HostRuntime) -> Result<(), Fail> {
+        let mut table = NameTable::new(rt.alloc(), 0)?;
+        assert!(rt; table.intern(b"relax")? == 0);
+        assert!(rt; table.intern(b"par")? == 1);
+        let copy = table.clone()?;
+        table.truncate(1);
+        assert!(rt; table.find(b"par").is_none());
+        assert!(rt; table.intern(b"end")? == 1);
+        assert!(rt; table.intern(b"relax")? == 0);
+        assert!(rt; copy.find(b"par") == Some(1));
+        assert!(rt; copy.find(b"end").is_none());
         Ok(())
     }
 }

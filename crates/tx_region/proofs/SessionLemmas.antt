@@ -10,7 +10,7 @@ use Rattle.tx_proto.specs.declared.requests.EndBy.TheVariants as end
 use Rattle.tx_proto.specs.declared.requests.Got.TheVariants as got
 use Rattle.tx_proto.specs.Requests.{AfterRequest, IsAtEnd}
 use Rattle.tx_proto.proofs.BreakLemmas.{breaks-behind}
-use Rattle.tx_gullet.specs.declared.engine.Engine.{Engine}
+use Rattle.tx_gullet.specs.States.{State}
 use Rattle.tx_region.specs.declared.once.Run.{Run}
 use Rattle.tx_region.specs.declared.once.Run.TheVariants as run
 use Rattle.tx_region.specs.Sessions.{most_regions, Tail, Nothing, ByeLine, Unanswered, Broken, Silent, tail_bytes, tail_replies, due, read_of, BreaksSession, HasCause, Session, IsEnd, IsCut, IsSilent, IsBroken, Writing, HasFault, GoesOn}
@@ -88,7 +88,7 @@ fault-one-more run.WriteFault input_old input_mid input_new old mid new i o f = 
 fault-one-more run.Memory input_old input_mid input_new old mid new i o f = tt
 
 -- a session goes on from a frame that was answered as it goes on from the next one
-pub one-more : (had before len : ℕ) (map : Map) (input_old input_mid input_new old mid new : Tells) (engine : Engine) (r : Run) (s : Serves had map input_old input_mid old len engine mid) → GoesOn (had + 1) (before + len) s.after input_mid input_new mid r new → GoesOn had before map input_old input_new old r new
+pub one-more : (had before len : ℕ) (map : Map) (input_old input_mid input_new old mid new : Tells) (engine : State) (r : Run) (s : Serves had map input_old input_mid old len engine mid) → GoesOn (had + 1) (before + len) s.after input_mid input_new mid r new → GoesOn had before map input_old input_new old r new
 one-more had before len map input_old input_mid input_new old mid new engine r s g =
     let at : GoesOn (had + 1) (before + length (frame s.request)) s.after input_mid input_new mid r new = subst (λ n. GoesOn (had + 1) (before + n) s.after input_mid input_new mid r new) s.long g in
     record {

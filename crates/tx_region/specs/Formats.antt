@@ -6,8 +6,7 @@ use Rattle.tx_model.specs.declared.reply.Status.TheVariants as status
 use Rattle.tx_model.specs.Environment.{Map}
 use Rattle.tx_model.specs.Bare.{bare_map}
 use Rattle.tx_model.specs.Region.{Outcome, Region}
-use Rattle.tx_gullet.specs.declared.format.Format.{Format}
-use Rattle.tx_gullet.specs.States.{IsFormat}
+use Rattle.tx_gullet.specs.States.{State, IsFormat}
 use Rattle.tx_region.specs.declared.frozen.PreFault.{PreFault}
 use Rattle.tx_region.specs.declared.frozen.PreFault.TheVariants as fault
 
@@ -31,14 +30,14 @@ EndsPreamble content s log steps =
     (outcome : Outcome) × ((after : Map) × (outcome.log ≡ log) × (outcome.steps ≡ steps) × Preamble content s outcome after)
 
 -- After a preamble of these bytes was run.
-abbrev pub AfterContent : List ℕ → Result Format PreFault → Type 0
+abbrev pub AfterContent : List ℕ → Result State PreFault → Type 0
 AfterContent content (Ok format) = (map : Map) × ((outcome : Outcome) × Preamble content status.Done outcome map) × IsFormat format map
 AfterContent content (Err (fault.Fail log steps)) = EndsPreamble content status.Fail log steps
 AfterContent content (Err (fault.Spent log steps)) = EndsPreamble content status.Spent log steps
 AfterContent content (Err fault.Memory) = Unit {0}
 
 -- After the format was made of these files.
-abbrev pub AfterPreamble : List Named → Result Format PreFault → Type 0
+abbrev pub AfterPreamble : List Named → Result State PreFault → Type 0
 AfterPreamble [] (Ok format) = (map : Map) × FormatOf [] map × IsFormat format map
 AfterPreamble [] (Err fault.Memory) = Unit {0}
 AfterPreamble [] (Err _) = ⊥

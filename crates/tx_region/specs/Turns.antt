@@ -4,8 +4,7 @@ use Rattle.tx_bytes.specs.Tells.{Tells, Grows, ReadsNext, Writes}
 use Rattle.tx_model.specs.Environment.{Map}
 use Rattle.tx_model.specs.Frames.{Request, IsLawful, frame}
 use Rattle.tx_model.specs.Replies.{Reply, Replies, reply_bytes}
-use Rattle.tx_gullet.specs.declared.engine.Engine.{Engine}
-use Rattle.tx_gullet.specs.States.{StandsFor}
+use Rattle.tx_gullet.specs.States.{State, StandsFor}
 use Rattle.tx_proto.specs.declared.replies.Sent.{Sent}
 use Rattle.tx_proto.specs.declared.replies.Sent.TheVariants as sent
 use Rattle.tx_proto.specs.Written.{AfterReply}
@@ -22,7 +21,7 @@ run_after all sent.WriteFault = run.WriteFault
 run_after all sent.Memory = run.Memory
 
 -- a frame of so many bytes was read and answered
-pub record Serves (had : ℕ) (map : Map) (input_old input_new old : Tells) (len : ℕ) (engine : Engine) (new : Tells) : Type 0 where
+pub record Serves (had : ℕ) (map : Map) (input_old input_new old : Tells) (len : ℕ) (engine : State) (new : Tells) : Type 0 where
   pub request : Request
   pub lawful : IsLawful request
   pub reply : Reply
@@ -37,7 +36,7 @@ pub record Serves (had : ℕ) (map : Map) (input_old input_new old : Tells) (len
   pub few : had < most_regions
 
 -- after a turn in the state of this map, where so many regions and bytes came before
-abbrev pub AfterTurn : ℕ → ℕ → Map → Tells → Tells → Tells → Turn → Engine → Tells → Type 0
+abbrev pub AfterTurn : ℕ → ℕ → Map → Tells → Tells → Tells → Turn → State → Tells → Type 0
 AfterTurn had before map input_old input_new old (turn.Served len) engine new = Serves had map input_old input_new old len engine new
 AfterTurn had before map input_old input_new old (turn.Ended r) engine new = GoesOn had before map input_old input_new old r new
 

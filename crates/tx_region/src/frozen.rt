@@ -72,10 +72,7 @@ fn finished(engine: Engine, text: Bytes) -> Result<Format, PreFault>
 {
     let mut engine = engine;
     match engine.run(text, PREAMBLE_BUDGET) {
-        Ok(Outcome::Done(_)) => match engine.freeze() {
-            Ok(format) => Ok(format),
-            Err(_) => Err(PreFault::Memory),
-        },
+        Ok(Outcome::Done(_)) => Ok(engine.freeze()),
         Ok(Outcome::Fail(output)) => Err(PreFault::Fail(output.log, output.steps)),
         Ok(Outcome::Spent(output)) => Err(PreFault::Spent(output.log, output.steps)),
         Err(_) => Err(PreFault::Memory),

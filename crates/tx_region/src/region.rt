@@ -2,7 +2,7 @@
 
 ghost use Rattle.std.specs.Prelude.{◌≡◌};
 ghost use Rattle.tx_model.specs.Environment.{Map};
-ghost use Rattle.tx_gullet.specs.States.{StandsFor};
+ghost use Rattle.tx_gullet.specs.States.{StandsFor, GivesBack};
 ghost use Rattle.tx_region.specs.Regions.{Answered, IsDone};
 
 use std::alloc::Global;
@@ -15,7 +15,7 @@ use tx_proto::{Body, Reply, Request};
 /// before the region, names included.
 pub fn run_region(alloc: Global, engine: &mut Engine, request: &Request) -> Reply
     ensures answered { (map : Map) → StandsFor engine.old map → Answered request.now map engine.new result }
-    ensures given_back { (IsDone result → ⊥) → (map : Map) → StandsFor engine.old map → StandsFor engine.new map }
+    ensures given_back { (IsDone result → ⊥) → GivesBack engine.old engine.new }
 {
     let Ok(text) = Bytes::from_slice(alloc, request.text.as_slice()) else {
         return Reply::Memory;

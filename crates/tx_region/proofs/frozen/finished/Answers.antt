@@ -1,13 +1,14 @@
-use Rattle.std.proofs.Common.{refl, ap, sym, ◌∙◌}
+use Rattle.std.proofs.Common.{ap, sym, subst}
 use Rattle.tx_model.specs.Bare.{bare_map}
 use Rattle.tx_model.specs.Region.{Outcome}
 use Rattle.tx_gullet.specs.Outcomes.{region_outcome}
+use Rattle.tx_gullet.specs.States.{IsFormat}
 use Rattle.tx_region.proofs.frozen.finished.Goals as goal
 
-pub returns-in-Ok : goal.returns-in-Ok
-returns-in-Ok c =
+pub returns-in-Ok-Done : goal.returns-in-Ok-Done
+returns-in-Ok-Done c =
     let a = c.in-Ok-Done.ensures.answered bare_map c.requires in
-    (a.0, (region_outcome c.in-Ok-Done.field-0, (ap (λ o. (region_outcome o).status) c.in-Ok-Done.field-0-is, a.1)), c.in-Ok.ensures a.0 a.2)
+    (a.0, (region_outcome c.in-Ok-Done.field-0, (ap (λ o. (region_outcome o).status) c.in-Ok-Done.field-0-is, a.1)), subst (λ s. IsFormat s a.0) (sym c.freeze.ensures) a.2)
 
 pub returns-in-Ok-Fail : goal.returns-in-Ok-Fail
 returns-in-Ok-Fail c =

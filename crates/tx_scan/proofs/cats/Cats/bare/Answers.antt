@@ -1,11 +1,10 @@
-use Rattle.std.proofs.Common.{◌≡◌, ℕ, ◌≢◌, ◌<◌, ◌≤◌, Bool, true, false, length, arith, refl, ltb, cond, get_or-set_other, get_or-set_same, below_more, ◌∙◌, sym}
+use Rattle.std.proofs.Common.{◌≡◌, ℕ, ◌≢◌, ◌<◌, ◌≤◌, true, false, length, arith, refl, ltb, get_or-set_other, get_or-set_same, below_more, ◌∙◌, sym}
 use Rattle.std.proofs.Math.ListN.{get_or-eq_default}
 use Rattle.std.proofs.lemmas.List.{length-set}
 use Rattle.std.proofs.lemmas.Bool.Decides.{nat_tests}
 use Rattle.tx_model.specs.declared.category.Cat.TheVariants.{Other}
 use Rattle.tx_model.specs.Bare.{bare_category}
 use Rattle.tx_scan.specs.Scans.{category_by}
-use Rattle.tx_scan.proofs.cats.Cats.bare.Invariants.{AreSet}
 use Rattle.tx_scan.proofs.cats.Cats.bare.Goals as goal
 
 pub loop-byte-preserved : goal.loop-byte-preserved
