@@ -166,7 +166,7 @@ fn bytes_of_lines(rt: HostRuntime) -> Result<(), Fail> {
     check(
         &rt,
         rt.alloc(),
-        "REGION 1000 32\n% \\zz\n^^5crel^^61x\\message{$&#_^~}\n",
+        "REGION 1000 35\n% \\zz\n^^5crel^^61x\\message{$&#_^~}\n",
         0,
         "DONE 11 0 0 8\n$&##_^~\n",
     )
@@ -185,9 +185,9 @@ fn sessions(rt: HostRuntime) -> Result<(), Fail> {
     check(
         &rt,
         rt.alloc(),
-        "REGION 1000 9\n\\def\\a{1}REGION 1000 25\n{{{\\def\\a{2}\\def\\b{3}}\\zz}REGION 1000 17\n\\message{\\a}\\def\\bREGION 1000 12\n\\message{\\a}",
+        "REGION 1000 9\n\\def\\a{1}REGION 1000 26\n{{{\\def\\a{2}\\def\\b{3}}\\zz}REGION 1000 18\n\\message{\\a}\\def\\bREGION 1000 12\n\\message{\\a}",
         0,
-        "DONE 6 0 0 0\nFAIL 17 0 0 34\n! Undefined control sequence.\nl.1\nFAIL 8 0 0 39\n1\n! This command is not built yet.\nl.1\nDONE 6 0 0 2\n1\n",
+        "DONE 6 0 0 0\nFAIL 15 0 0 34\n! Undefined control sequence.\nl.1\nFAIL 7 0 0 39\n1\n! This command is not built yet.\nl.1\nDONE 6 0 0 2\n1\n",
     )
 }
 
@@ -361,7 +361,7 @@ fn words_that_are_refused(rt: HostRuntime) -> Result<(), Fail> {
 }
 
 /// A run on one frame of which some calls fail.
-fn failing<R: Threads + Wait + Send + Sync + Abort>(
+fn check_failing<R: Threads + Wait + Send + Sync + Abort>(
     rt: &R,
     alloc: Global,
     words: &[&str],
@@ -384,16 +384,16 @@ fn calls_that_fail(rt: HostRuntime) -> Result<(), Fail> {
         looks: &[0],
         ..NONE
     };
-    failing(&rt, alloc, &["once", "a"], looks, 5, "")?;
+    check_failing(&rt, alloc, &["once", "a"], looks, 5, "")?;
     let reads = Failing {
         reads: &[11],
         ..NONE
     };
-    failing(&rt, alloc, &["once"], reads, 5, "DONE 0 0 0 0\n")?;
+    check_failing(&rt, alloc, &["once"], reads, 5, "DONE 0 0 0 0\n")?;
     let writes = Failing {
         writes: &[0],
         ..NONE
     };
-    failing(&rt, alloc, &["once"], writes, 6, "DONE 0")?;
-    failing(&rt, alloc, &["once", "b"], writes, 6, "ABSENT")
+    check_failing(&rt, alloc, &["once"], writes, 6, "DONE 0")?;
+    check_failing(&rt, alloc, &["once", "b"], writes, 6, "ABSE")
 }
