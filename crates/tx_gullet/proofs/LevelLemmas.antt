@@ -1,5 +1,5 @@
 -- Cells by numbers, and the maps of names that they stand for.
-use Rattle.std.proofs.Common.{◌≡◌, ◌≢◌, ◌==◌, ℕ, suc, ◌+◌, ◌-◌, Bool, true, false, cond, ◌≤◌, List, [], ◌∷◌, ◌++◌, length, drop, reverse, Option, None, Some, refl, sym, ◌∙◌, ap, subst, nat_eq, arith}
+use Rattle.std.proofs.Common.{◌≡◌, ◌≢◌, ℕ, suc, ◌+◌, ◌-◌, Bool, true, false, cond, ◌≤◌, List, [], ◌∷◌, ◌++◌, length, drop, reverse, Option, None, Some, refl, sym, ◌∙◌, ap, subst, nat_eq, arith}
 use mathlib.Core.Path.{fun_ext}
 use Rattle.std.specs.List.{AllByRecursion}
 use Rattle.std.specs.Map.{lookup}
@@ -11,13 +11,13 @@ use Rattle.std.proofs.Math.ListN.{drop_of_length-le}
 use Rattle.indexmap.specs.IndexMap.{insert_entry}
 use Rattle.tx_model.specs.Environment.{Map, Environment, Address, OfName, OfActive, OfCategory, OfParameter, with_name, open_groups}
 use Rattle.tx_model.specs.Environment as environment
-use Rattle.tx_names.specs.Names.{Names, Naming, KeepsApart}
+use Rattle.tx_names.specs.Names.{Naming, KeepsApart}
 use Rattle.tx_scan.specs.declared.cats.Cats.{Cats}
 use Rattle.tx_gullet.specs.declared.meaning.Meaning.{Meaning}
 use Rattle.tx_gullet.specs.declared.equivalents.Save.{Save}
 use Rattle.tx_gullet.specs.declared.equivalents.Save.TheVariants as save
 use Rattle.tx_gullet.specs.declared.equivalents.Equivalents.{Equivalents}
-use Rattle.tx_gullet.specs.Meanings.{meaning_in, KnowsMeaning}
+use Rattle.tx_gullet.specs.Meanings.{meaning_in}
 use Rattle.tx_gullet.specs.Levels.{Cells, or_undefined, map_of, with_cell, below, levels, marks, before_of}
 
 -- a name stands at the numbers at which its number stands

@@ -1,21 +1,17 @@
 -- The state BARE.
-use Rattle.std.proofs.Common.{◌≡◌, ℕ, List, [], ◌∷◌, reverse, refl, sym, ◌∙◌, ap, subst}
+use Rattle.std.proofs.Common.{◌≡◌, ℕ, [], ◌∷◌, reverse, refl, sym, ◌∙◌, ap, subst}
 use mathlib.Core.Path.{fun_ext}
 use Rattle.std.specs.List.{AllByRecursion}
 use lib.Chars.{codes}
 use Rattle.tx_model.specs.declared.primitive.Primitive.TheVariants as primitive
 use Rattle.tx_model.specs.Bare.{bare_map, bare_category}
-use Rattle.tx_model.specs.Scanner.{opened}
-use Rattle.tx_model.specs.Pending.{Member, Text}
-use Rattle.tx_model.specs.Environment.{Map, Address, OfName, OfActive, OfCategory, OfParameter, Environment, Category, Primitive', with_name, defining}
-use Rattle.tx_model.specs.Region.{started}
+use Rattle.tx_model.specs.Environment.{Address, OfName, OfActive, OfCategory, OfParameter, Environment, Category, Primitive', with_name, defining}
 use Rattle.tx_names.specs.Names.{Names, Naming}
 use Rattle.tx_scan.specs.declared.cats.Cats.{Cats}
 use Rattle.tx_scan.specs.Scans.{category_by}
 use Rattle.tx_gullet.specs.declared.equivalents.Equivalents.{Equivalents}
 use Rattle.tx_gullet.specs.Meanings.{KnowsMeaning}
 use Rattle.tx_gullet.specs.Levels.{levels, map_of, below, meaning_by, HasCell, KnowsSave, KnowsEquivalents}
-use Rattle.tx_gullet.specs.Spent.{StepsOf}
 
 -- the primitives, given to a map in which no name has a meaning
 abbrev with_primitives : Environment → Environment
@@ -57,11 +53,3 @@ none-known names e none unsaved = record {
   saves = subst (AllByRecursion (KnowsSave names)) (sym unsaved) tt;
   has_cells = subst (AllByRecursion (HasCell e.names.entries)) (sym unsaved) tt;
 }
-
--- the world in which a region begins
-pub world-begun : (pending : List Member) (maps : Environment) (steps : StepsOf) (log : List ℕ) (text : List ℕ) (budget : ℕ) (map : Map) → pending ≡ Text (opened text) ∷ [] → maps ≡ map ∷ [] → steps ≡ record { budget = budget; spent = 0 } → log ≡ [] → record { pending = pending; environment = maps; budget = steps.budget; output = record { steps = steps.spent; pages = 0; dvi = []; log = log } } ≡ started map text budget
-world-begun pending maps steps log text budget map p m s l =
-    ap (λ x. record { pending = x; environment = maps; budget = steps.budget; output = record { steps = steps.spent; pages = 0; dvi = []; log = log } }) p
-    ∙ ap (λ x. record { pending = Text (opened text) ∷ []; environment = x; budget = steps.budget; output = record { steps = steps.spent; pages = 0; dvi = []; log = log } }) m
-    ∙ ap (λ x. record { pending = Text (opened text) ∷ []; environment = map ∷ []; budget = x.budget; output = record { steps = x.spent; pages = 0; dvi = []; log = log } }) s
-    ∙ ap (λ x. record { pending = Text (opened text) ∷ []; environment = map ∷ []; budget = budget; output = record { steps = 0; pages = 0; dvi = []; log = x } }) l

@@ -1,5 +1,5 @@
 -- The state that a region leaves.
-use Rattle.std.proofs.Common.{◌≡◌, ℕ, List, [], ◌∷◌, length, reverse, refl, sym, ◌∙◌, ap, subst}
+use Rattle.std.proofs.Common.{◌≡◌, ℕ, List, [], ◌∷◌, length, reverse, sym, ◌∙◌, ap, subst}
 use Rattle.std.specs.List.{AllByRecursion}
 use Rattle.tx_model.specs.Environment.{Map}
 use Rattle.tx_model.specs.Moves.{Control}
@@ -11,10 +11,10 @@ use Rattle.tx_gullet.specs.declared.outcome.Outcome.TheVariants as outcome
 use Rattle.tx_gullet.specs.declared.equivalents.Equivalents.{Equivalents}
 use Rattle.tx_gullet.specs.declared.running.Running.{Running}
 use Rattle.tx_gullet.specs.Meanings.{KnowsMeaning}
-use Rattle.tx_gullet.specs.Levels.{map_of, below, meaning_by, before, undone, levels, HasCell, HasCells, KeepsBefore, KnowsSave, KnowsEquivalents}
+use Rattle.tx_gullet.specs.Levels.{map_of, below, meaning_by, undone, levels, HasCell, HasCells, KeepsBefore, KnowsSave, KnowsEquivalents}
 use Rattle.tx_gullet.specs.Outcomes.{region_outcome, IsUnfinished}
-use Rattle.tx_gullet.specs.States.{State, IsAtRest, StandsFor, GivesBack, Answered}
-use Rattle.tx_gullet.specs.Runs.{Begins, ComesTo, IsKnownAfter, Kept, GaveBack, AfterEnd, state_of, left_in}
+use Rattle.tx_gullet.specs.States.{IsAtRest, StandsFor, GivesBack, Answered}
+use Rattle.tx_gullet.specs.Runs.{Begins, ComesTo, IsKnownAfter, GaveBack, AfterEnd, state_of, left_in}
 use Rattle.tx_gullet.proofs.UndoLemmas.{map-by-meanings}
 
 -- a region leaves one state
@@ -71,9 +71,6 @@ module _ (old begun ended : Running) (text : List ℕ) (budget known : ℕ) (res
   rest-begun : IsAtRest (state_of begun)
   rest-begun = subst IsAtRest (sym same) rest
 
-  pub cells-ended : HasCells ended.scene.equivalents
-  cells-ended = kept.has_cells (cells-unsaved begun.scene.equivalents rest-begun.unsaved)
-
   -- the region that it was, by a naming
   region : (o : Outcome) → ComesTo begun o ended → (map : Map) → StandsFor (state_of old) map → (naming : Naming) → KeepsApart naming → Agrees naming ended.scene.names → Region map text budget (region_outcome o) (left_in o (levels naming ended.scene.equivalents) map)
   region o comes map stands naming apart agrees =
@@ -107,8 +104,8 @@ module _ (old begun ended : Running) (text : List ℕ) (budget known : ℕ) (res
       λ naming apart agrees.
           after.levels naming apart map
           ∙ ap (λ m. m ∷ []) (leaves-once map text budget _ _ _ _
-              (region (outcome.Done output) comes map stands naming apart (subst (Agrees naming) after.names agrees))
-              (region (outcome.Done output) comes map stands n.naming n.apart n.agrees)),
+          (region (outcome.Done output) comes map stands naming apart (subst (Agrees naming) after.names agrees))
+          (region (outcome.Done output) comes map stands n.naming n.apart n.agrees)),
     )
     answered-left (outcome.Fail output) n comes after map stands = (
       map,

@@ -1,5 +1,5 @@
 -- What was before anything was saved, and how it is given back.
-use Rattle.std.proofs.Common.{◌≡◌, ◌≢◌, ◌-◌, ◌+◌, ◌≤◌, ℕ, Bool, true, false, cond, ◌<◌, List, [], ◌∷◌, ◌++◌, length, reverse, Option, None, Some, refl, sym, ◌∙◌, ap, subst, nat_eq, arith}
+use Rattle.std.proofs.Common.{◌≡◌, ◌≢◌, ◌+◌, ◌≤◌, ℕ, Bool, true, false, cond, ◌<◌, List, [], ◌∷◌, ◌++◌, length, reverse, Option, None, Some, refl, sym, ◌∙◌, ap, subst, nat_eq, arith}
 use mathlib.Core.Path.{fun_ext}
 use Rattle.std.specs.Prelude.{IsSome}
 use Rattle.std.specs.List.{AllByRecursion, AllZip}
@@ -10,7 +10,6 @@ use Rattle.std.proofs.lemmas.Bool.Decides.{nat_tests}
 use Rattle.std.proofs.lemmas.List.{length-append}
 use Rattle.indexmap.specs.IndexMap.{insert_entry}
 use Rattle.tx_model.specs.Environment.{Map, Environment, Address, OfName, OfActive, OfCategory, OfParameter, ending_group, open_groups}
-use Rattle.tx_model.specs.Environment as environment
 use Rattle.tx_model.specs.Region.{outermost}
 use Rattle.tx_names.specs.Names.{Names, Naming, KeepsApart}
 use Rattle.tx_scan.specs.declared.cats.Cats.{Cats}
@@ -19,7 +18,7 @@ use Rattle.tx_gullet.specs.declared.equivalents.Save.{Save}
 use Rattle.tx_gullet.specs.declared.equivalents.Save.TheVariants as save
 use Rattle.tx_gullet.specs.declared.equivalents.Equivalents.{Equivalents}
 use Rattle.tx_gullet.specs.Meanings.{meaning_in, KnowsMeaning, IsSameMeaning}
-use Rattle.tx_gullet.specs.Levels.{Cells, or_undefined, map_of, below, with_cell, before_of, meaning_by, with_meaning, undone, before, HasCell, HasCells, KeepsBefore, if_ended}
+use Rattle.tx_gullet.specs.Levels.{Cells, or_undefined, map_of, below, with_cell, before_of, meaning_by, with_meaning, undone, HasCell, KeepsBefore, if_ended}
 use Rattle.tx_gullet.proofs.LevelLemmas.{lookup-by-name, reverse-last, all-append, all-more, all-before-last}
 
 -- what a number finds in cells after one was written
@@ -77,14 +76,6 @@ before-defined cells new saves more n m was written last had =
     ∙ ap (λ x. undone (with_meaning n x (with_meaning n m (meaning_by cells))) (reverse saves)) had
     ∙ ap (λ means. undone means (reverse saves)) (given-again n m (meaning_by cells))
 
--- where a group is begun
-pub before-begun : (cells : Cells) (saves more : List Save) → more ≡ saves ++ save.Group ∷ [] → undone (meaning_by cells) (reverse more) ≡ undone (meaning_by cells) (reverse saves)
-before-begun cells saves more last = ap (undone (meaning_by cells)) (ap reverse last ∙ reverse-last saves save.Group)
-
--- where a group's beginning is taken from what was saved
-pub before-ended : (cells : Cells) (saves rest : List Save) (x : Save) → saves ≡ rest ++ x ∷ [] → x ≡ save.Group → undone (meaning_by cells) (reverse rest) ≡ undone (meaning_by cells) (reverse saves)
-before-ended cells saves rest x last is = sym (before-begun cells rest saves (last ∙ ap (λ y. rest ++ y ∷ []) is))
-
 -- and where a saved meaning is given back
 pub before-restored : (cells new : Cells) (saves rest left : List Save) (x : Save) (n : ℕ) (m : Meaning) → new ≡ with_cell cells n m → left ≡ rest → saves ≡ rest ++ x ∷ [] → x ≡ save.Name n m → undone (meaning_by new) (reverse left) ≡ undone (meaning_by cells) (reverse saves)
 before-restored cells new saves rest left x n m written kept last is =
@@ -132,9 +123,6 @@ keeps-same old new cats cells saves = record {
   before = ap (λ cs. undone (meaning_by cs) (reverse new.saves.items)) cells ∙ ap (λ s. undone (meaning_by old.names.entries) (reverse s)) saves;
   has_cells = λ h. subst (λ s. AllByRecursion (HasCell new.names.entries) s) (sym saves) (subst (λ cs. AllByRecursion (HasCell cs) old.saves.items) (sym cells) h);
 }
-
-pub keeps-itself : (e : Equivalents) → KeepsBefore e e
-keeps-itself e = keeps-same e e refl refl refl
 
 pub keeps-through : (old mid new : Equivalents) → KeepsBefore old mid → KeepsBefore mid new → KeepsBefore old new
 keeps-through old mid new e f = record {

@@ -124,7 +124,7 @@ abbrev pub ComesTo : Running → Outcome → Running → Type 0
 ComesTo old o new =
     (naming : Naming) → KeepsApart naming → Agrees naming new.scene.names
     → Agrees naming old.scene.names
-      × ((map : Map) (text : List ℕ) (budget : ℕ) → Begins naming old map text budget → Region map text budget (region_outcome o) (left_in o (levels naming new.scene.equivalents) map))
+    × ((map : Map) (text : List ℕ) (budget : ℕ) → Begins naming old map text budget → Region map text budget (region_outcome o) (left_in o (levels naming new.scene.equivalents) map))
 
 -- what is known after the region
 abbrev pub IsKnownAfter : Outcome → Running → Type 0

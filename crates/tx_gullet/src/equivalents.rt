@@ -150,7 +150,7 @@ impl Equivalents {
         'saves: while let Some(save) = self.saves.pop() {
             match save {
                 Save::Group => {}
-                Save::Name(number, meaning) => self.restore(number, meaning),
+                Save::Name(number, before) => self.restore(number, before),
             }
         }
     }

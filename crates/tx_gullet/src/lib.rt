@@ -14,6 +14,8 @@ mod scene;
 mod show;
 mod start;
 mod steps;
+#[cfg(test)]
+mod tests;
 mod texts;
 
 pub use engine::Engine;

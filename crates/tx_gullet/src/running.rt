@@ -239,9 +239,9 @@ impl Running {
                 self.scene.names.has_naming();
                 Ok(self.end(outcome, known))
             }
-            Err(_) => {
+            Err(error) => {
                 self.give_back(known);
-                Err(AllocError)
+                Err(error)
             }
         }
     }

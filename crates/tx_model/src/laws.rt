@@ -16,4 +16,3 @@ pub fn one_end()
 pub fn one_outcome()
     ensures { (map : Map) (text : List ℕ) (budget : ℕ) (o p : Outcome) (a b : Map) → Region map text budget o a → Region map text budget p b → (o ≡ p) × (a ≡ b) }
 {}
-

@@ -67,11 +67,6 @@ one-whole v w a b (inl (r, lawful, is)) (inr was) e = absurd (frame-not-bye r a 
 one-whole v w a b (inr is) (inl (s, also, was)) e = absurd (frame-not-bye s b a (ap (λ xs. xs ++ b) (sym was) ∙ sym e ∙ ap (λ xs. xs ++ a) is))
 one-whole v w a b (inr is) (inr was) e = (is ∙ sym was, append_cancel_left bye a b (ap (λ xs. xs ++ a) (sym is) ∙ e ∙ ap (λ xs. xs ++ b) was))
 
--- a frame or BYE has bytes
-pub whole-not-none : (v a : List ℕ) → IsFrameOrBye v → v ++ a ≡ [] → ⊥
-whole-not-none v a (inl (r, lawful, is)) e = frame-not-none r a (ap (λ xs. xs ++ a) (sym is) ∙ e)
-whole-not-none v a (inr is) e = bye-not-none a (ap (λ xs. xs ++ a) (sym is) ∙ e)
-
 -- a proper part begins with no frame and no BYE
 pub proper-begins-none : (bytes whole rest : List ℕ) → IsProperPart bytes → IsFrameOrBye whole → bytes ≡ whole ++ rest → ⊥
 proper-begins-none bytes whole rest (next, more, one) other e =

@@ -1,16 +1,12 @@
 -- What each state of a header stands for, and the bytes that no header goes on with.
-use Rattle.std.proofs.Common.{◌≡◌, ◌≢◌, ℕ, ◌<◌, ◌≤◌, ◌^◌, inl, inr, List, [], ◌∷◌, ◌++◌, length, get_or, sym, ap, subst, ◌∙◌, arith, append_assoc}
+use Rattle.std.proofs.Common.{◌≡◌, ◌≢◌, ℕ, ◌<◌, ◌≤◌, ◌^◌, inl, inr, List, [], ◌∷◌, ◌++◌, length, sym, ap, subst, ◌∙◌, arith, append_assoc}
 use Rattle.std.specs.Fmt.{decimal}
-use Rattle.std.proofs.lemmas.List.{append_cancel_left, append-nil, get_or_at}
+use Rattle.std.proofs.lemmas.List.{append_cancel_left, append-nil}
 use Rattle.tx_model.specs.Frames.{Request, IsLawful, frame, bye}
 use Rattle.tx_proto.specs.Parts.{BeginsNone}
 use Rattle.tx_proto.specs.Headers.{region, IsBudget, IsLength}
 use Rattle.tx_proto.proofs.DecimalLemmas.{digits-meet, digit-meet}
 use Rattle.tx_proto.proofs.FrameLemmas.{frame-parts, at-first, same-number}
-
--- a byte at a place before which a list has bytes
-pub at-byte : (xs more : List ℕ) (c n : ℕ) → length xs ≡ n → get_or ((xs ++ c ∷ []) ++ more) n 0 ≡ c
-at-byte xs more c n long = ap (λ ys. get_or ys n 0) (append_assoc xs (c ∷ []) more) ∙ get_or_at xs c more 0 n long
 
 -- What begins no frame and not BYE, given what its bytes are in each.
 pub begins-none : (bytes : List ℕ) → ((r : Request) (more rest : List ℕ) → IsLawful r → bytes ++ more ≡ frame r ++ rest → ⊥) → ((more rest : List ℕ) → bytes ++ more ≡ bye ++ rest → ⊥) → BeginsNone bytes

@@ -5,3 +5,4 @@ pub mod BreakLemmas
 pub mod HeaderLemmas
 pub mod PartLemmas
 pub mod LineLemmas
+pub mod SessionLemmas

@@ -1,5 +1,6 @@
 -- Reads one after another are one read.
-use Rattle.std.proofs.Common.{◌≡◌, ℕ, ◌≤◌, arith, List, [], ◌∷◌, ◌++◌, Option, None, Some, refl, sym, ap, subst, ◌∙◌, append_assoc}
+use Rattle.std.proofs.Common.{◌≡◌, ℕ, ◌≤◌, arith, List, [], ◌++◌, Option, None, Some, refl, sym, ap, subst, ◌∙◌, append_assoc}
+use Rattle.std.proofs.lemmas.List.{append-nil}
 use Rattle.tx_bytes.specs.Tells.{Tells, Gains, Loses, ReadsNext, Stays, HasRisen}
 
 gains-append : (old mid new : Option (List ℕ)) (x y : List ℕ) → Gains old x mid → Gains mid y new → Gains old (x ++ y) new
@@ -21,13 +22,9 @@ reads-append old mid new x y first second = record {
   got = second.got ∙ first.got;
 }
 
-append-nothing : (xs : List ℕ) → xs ++ [] ≡ xs
-append-nothing [] = refl
-append-nothing (x ∷ xs) = ap (λ ys. x ∷ ys) (append-nothing xs)
-
 gains-nothing : (told : Option (List ℕ)) → Gains told [] told
 gains-nothing None = refl
-gains-nothing (Some bytes) = ap Some (sym (append-nothing bytes))
+gains-nothing (Some bytes) = ap Some (sym (append-nil bytes))
 
 loses-nothing : (told : Option (List ℕ)) → Loses told [] told
 loses-nothing None = refl
@@ -46,7 +43,7 @@ reads-stays old mid new x next stays = record {
 
 -- a read that took nothing, after another one
 pub reads-no-more : (old mid new : Tells) (x : List ℕ) → ReadsNext old x mid → ReadsNext mid [] new → ReadsNext old x new
-reads-no-more old mid new x next none = subst (λ bytes. ReadsNext old bytes new) (append-nothing x) (reads-append old mid new x [] next none)
+reads-no-more old mid new x next none = subst (λ bytes. ReadsNext old bytes new) (append-nil x) (reads-append old mid new x [] next none)
 
 -- a count that rose later rose from before
 pub rises-later : (old mid new : Tells) → old.faults ≤ mid.faults → HasRisen mid.faults new.faults → HasRisen old.faults new.faults

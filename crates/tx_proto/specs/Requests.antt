@@ -1,7 +1,8 @@
 -- What is read of an input for the next request.
-use Rattle.std.specs.Prelude.{◌≡◌, ℕ, ◌+◌, ◌⊎◌, List, [], length, IfSome}
+use Rattle.std.specs.Prelude.{◌≡◌, ℕ, ◌+◌, ◌⊎◌, List, [], ◌++◌, length, IfSome}
+use Rattle.std.specs.List.{flat_map}
 use Rattle.tx_bytes.specs.Tells.{Tells, HasRisen, ReadsNext}
-use Rattle.tx_model.specs.Frames.{Request as ModelRequest, IsLawful, frame, bye, BreaksAt}
+use Rattle.tx_model.specs.Frames.{Request as ModelRequest, IsLawful, frame, bye, ByBytes, ByBye, IsInput, BreaksAt}
 use Rattle.tx_proto.specs.Parts.{IsPart, IsProperPart}
 use Rattle.tx_proto.specs.declared.requests.Request.{Request}
 use Rattle.tx_proto.specs.declared.requests.EndBy.TheVariants as end
@@ -41,3 +42,16 @@ AfterRequest old at (got.End end.Bytes) new = ReadsNext old [] new × IsAtEnd ne
 AfterRequest old at (got.Bad n) new = (place : ℕ) × (n ≡ at + place) × ReadsToBreak old place new
 AfterRequest old at got.ReadFault new = HasRisen old.faults new.faults × ReadsProperPart old new
 AfterRequest old at got.Memory new = ReadsPart old new
+
+-- an input begins with the frames of these requests
+abbrev pub BeginsWith : List ℕ → List ModelRequest → Type 0
+BeginsWith input requests = (rest : List ℕ) × (input ≡ flat_map frame requests ++ rest)
+
+-- What an input is of which these requests were read, and then this was got.
+abbrev pub ReadsAs : List ℕ → List ModelRequest → Got → Type 0
+ReadsAs input requests (got.Request r) = (rest : List ℕ) × (input ≡ flat_map frame requests ++ (frame (request_in r) ++ rest))
+ReadsAs input requests (got.End end.Bye) = IsInput input requests ByBye
+ReadsAs input requests (got.End end.Bytes) = IsInput input requests ByBytes
+ReadsAs input requests (got.Bad n) = BreaksAt input n
+ReadsAs input requests got.ReadFault = BeginsWith input requests
+ReadsAs input requests got.Memory = BeginsWith input requests

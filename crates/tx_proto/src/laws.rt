@@ -3,8 +3,9 @@
 ghost use Rattle.std.specs.Prelude.{◌≡◌, ℕ, ◌+◌, ◌<◌, List, ◌++◌, length, IfSome};
 ghost use Rattle.std.specs.List.{flat_map, AllByRecursion};
 ghost use Rattle.tx_model.specs.Frames.{Request, IsLawful, frame, InputEnd, IsInput, IsLawfulInput, BreaksAt};
-ghost use Rattle.tx_bytes.specs.Tells.{Tells};
-ghost use Rattle.tx_proto.specs.Requests.{ReadsToBreak};
+ghost use Rattle.tx_bytes.specs.Tells.{Tells, ReadsNext};
+ghost use Rattle.tx_proto.specs.declared.requests.Got.{Got};
+ghost use Rattle.tx_proto.specs.Requests.{AfterRequest, ReadsAs, ReadsToBreak};
 
 /// An input breaks at one place at the most.
 pub fn one_place()
@@ -34,4 +35,10 @@ pub fn breaks_in_what_is_read()
 /// Where an input tells the bytes that are left, these are what breaks at the place to which it is read.
 pub fn breaks_in_what_is_left()
     ensures { (old new : Tells) (place : ℕ) → ReadsToBreak old place new → IfSome old.left (λ left. BreaksAt left place) }
+{}
+
+/// Requests read one after another are the input's, and then its end or the place at which it breaks is
+/// what is got, where the input tells the bytes that were left at first.
+pub fn input_is_read_as()
+    ensures { (old mid new : Tells) (requests : List Request) (got : Got) → AllByRecursion IsLawful requests → ReadsNext old (flat_map frame requests) mid → AfterRequest mid (length (flat_map frame requests)) got new → IfSome old.left (λ input. ReadsAs input requests got) }
 {}

@@ -16,8 +16,8 @@ mod text;
 
 pub use examples::{bytes_of_frames, bytes_of_replies};
 pub use laws::{
-    breaks_behind, breaks_in_what_is_left, breaks_in_what_is_read, lawful_never_breaks, one_place,
-    one_reading,
+    breaks_behind, breaks_in_what_is_left, breaks_in_what_is_read, input_is_read_as,
+    lawful_never_breaks, one_place, one_reading,
 };
 pub use replies::{Body, Reply, Sent, write_reply};
 pub use requests::{EndBy, Got, Request, read_request};

@@ -42,9 +42,9 @@ pub enum Reply {
 pub enum Sent {
     /// All was written.
     All,
-    /// A call of the output failed.
+    /// A call of the output failed, and a first part may be written.
     WriteFault,
-    /// Memory was wanting.
+    /// Memory was wanting, and nothing was written.
     Memory,
 }
 

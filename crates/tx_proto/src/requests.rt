@@ -36,9 +36,9 @@ pub enum Got {
     /// The input breaks the grammar of frames at this place: that of the first byte with which no
     /// lawful input begins, or of the end, if it ends inside a frame.
     Bad(u64),
-    /// A call of the input failed inside a frame or before one.
+    /// A call of the input failed, and what was read of a frame before is dropped.
     ReadFault,
-    /// Memory was wanting for the text, of which nothing was read.
+    /// Memory was wanting for a text, of which nothing was read.
     Memory,
 }
 

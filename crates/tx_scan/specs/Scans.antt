@@ -26,10 +26,11 @@ category_by cats b = slice_index_or cats.0 b cat.Other
 abbrev pub par : List ℕ
 par = 112 ∷ 97 ∷ 114 ∷ []
 
--- a line from a byte on that stands for what was read of it so far
+-- a line from a byte on, which stands for those before its place
 abbrev pub from_front : List ℕ → Front → List ℕ
 from_front line front = front.byte ∷ drop front.behind line
 
+-- the same, where there is such a byte
 abbrev pub from_found : List ℕ → Option Front → Option (List ℕ)
 from_found line None = None
 from_found line (Some front) = Some (from_front line front)
@@ -67,7 +68,7 @@ Tells found scan.Invalid state rest = found ≡ Stops state rest
 Tells found scan.End state rest = ⊥
 Tells found scan.Memory state rest = ⊥
 
--- this stands in the line, with the state and the bytes after it, or nothing
+-- What the plain reading tells: this stands in the line, with the state and the bytes after it, or nothing.
 abbrev pub IsPlain : Found → Option (Scan × LineState × List ℕ) → Type 0
 IsPlain found None = found ≡ LineUsed
 IsPlain found (Some next) = Tells found next.0 next.1 next.2

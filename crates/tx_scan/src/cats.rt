@@ -18,7 +18,7 @@ impl Cats {
         self.0[byte as usize]
     }
 
-    /// Gives a byte this category.
+    /// Gives a byte this category, and leaves the others. *The TeXbook*, chapter 7, `\catcode`.
     pub fn set(&mut self, byte: u8, cat: Cat)
         ensures same { category_by self.new byte ≡ cat }
         ensures others { (b : ℕ) → b ≢ byte → category_by self.new b ≡ category_by self.old b }

@@ -169,10 +169,7 @@ fn name_at(alloc: Global, cats: &Cats, line: &[u8], at: usize) -> InLine
 {
     match front_at(cats, line, at) {
         None => {
-            let none = Left {
-                front: None,
-                from: line.len(),
-            };
+            let none = Left::at(line.len());
             InLine::Found(Scan::NameText(Bytes::new(alloc)), LineState::MidLine, none)
         }
         Some(first) => name_from(alloc, cats, line, first),

@@ -1,8 +1,6 @@
 use Rattle.std.proofs.Common.{[], ◌∷◌, ◌∙◌, ap}
 use Rattle.tx_model.specs.Bare.{bare_map}
 use Rattle.tx_model.specs.Region.{outermost}
-use Rattle.tx_names.specs.Names.{Names}
-use Rattle.tx_gullet.specs.Levels.{KnowsEquivalents}
 use Rattle.tx_gullet.proofs.StartLemmas.{bare-levels, none-known}
 use Rattle.tx_gullet.proofs.start.bare_names.Goals as goal
 
@@ -25,7 +23,7 @@ returns-clause-bare c naming apart agrees =
     let first = c.in_ok-name_primitive.ensures.named naming apart second.0 in
     c.keep.ensures.levels naming apart bare_map
     ∙ ap (λ maps. outermost bare_map maps ∷ [])
-      (bare-levels naming c.new-equivalents.result c.name_primitive.new.equivalents c.name_primitive-2.new.equivalents c.name_primitive-3.new.equivalents c.name_primitive-4.new.equivalents c.bare.result c.bare.ensures c.new-equivalents.ensures.cats c.new-equivalents.ensures.names c.new-equivalents.ensures.saves first.1 second.1 third.1 fourth.1)
+    (bare-levels naming c.new-equivalents.result c.name_primitive.new.equivalents c.name_primitive-2.new.equivalents c.name_primitive-3.new.equivalents c.name_primitive-4.new.equivalents c.bare.result c.bare.ensures c.new-equivalents.ensures.cats c.new-equivalents.ensures.names c.new-equivalents.ensures.saves first.1 second.1 third.1 fourth.1)
 
 pub returns-clause-rest : goal.returns-clause-rest
 returns-clause-rest c =

@@ -1,5 +1,5 @@
 -- what was before stays, and can be given back
-use Rattle.std.proofs.Common.{◌≡◌, length}
+use Rattle.std.proofs.Common.{length}
 use Rattle.tx_gullet.specs.Levels.{HasCells, KeepsBefore}
 use Rattle.tx_gullet.proofs.equivalents.Equivalents.undo.Given as goal
 

@@ -1,6 +1,6 @@
 use Rattle.std.proofs.Common.{subst, sym}
 use Rattle.tx_gullet.specs.Outcomes.{IsUnfinished}
-use Rattle.tx_gullet.specs.States.{Answered, GivesBack}
+use Rattle.tx_gullet.specs.States.{Answered}
 use Rattle.tx_gullet.specs.Runs.{state_of}
 use Rattle.tx_gullet.proofs.StateLemmas.{rest-left, answered-left, given-back-left, gave-back-old}
 use Rattle.tx_gullet.proofs.running.Running.run.Goals as goal
