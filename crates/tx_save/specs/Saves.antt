@@ -1,5 +1,5 @@
 -- Groups, as maps: one for each open level. The TeXbook, chapter 24.
-use Rattle.std.specs.Prelude.{◌≡◌, ◌≢◌, ℕ, ◌+◌, ◌-◌, ◌<◌, ◌==◌, Bool, List, [], ◌∷◌, ◌++◌, map, length, Option, ⊤, MatchBool, if◌then◌else◌}
+use Rattle.std.specs.Prelude.{◌≡◌, ◌≢◌, ℕ, ◌+◌, ◌-◌, ◌<◌, ◌==◌, Bool, List, [], ◌∷◌, ◌++◌, map, length, Option, None, Some, ⊤, MatchBool, if◌then◌else◌}
 use Rattle.tx_eqtb.specs.declared.addr.Addr.{Addr}
 use Rattle.tx_eqtb.specs.declared.meaning.Meaning.{Meaning}
 use Rattle.tx_eqtb.specs.declared.meaning.Before.{Before}
@@ -108,3 +108,14 @@ module _ {B : Type 0} where
   abbrev pub dropped : Closed B → List (Meaning B)
   dropped (closed.Dropped m) = option_to_list m
   dropped (closed.End kind after) = []
+
+  -- What a step of the giving up of all groups does: one saved entry less, with nothing put back; or the
+  -- innermost group leaves.
+  abbrev pub Abandons : Saves B → Closed B → Saves B → Type 0
+  Abandons s (closed.Dropped m) n = (groups n ≡ groups s) × (n.level ≡ s.level)
+  Abandons s (closed.End kind after) n = (groups s ≡ record { kind = kind; after = after } ∷ groups n) × (s.level ≡ n.level + 1)
+
+  -- the meanings that such a step hands out, if there was one
+  abbrev pub abandoned : Option (Closed B) → List (Meaning B)
+  abandoned None = []
+  abandoned (Some step) = dropped step

@@ -1,6 +1,6 @@
 //! The levels at which meanings were assigned.
 
-ghost use Rattle.std.specs.Prelude.{◌≡◌, ◌<◌, None};
+ghost use Rattle.std.specs.Prelude.{◌≡◌, ◌<◌, ◌==◌, None, if◌then◌else◌};
 ghost use Rattle.indexmap.specs.IndexMap.{spare};
 ghost use Rattle.tx_eqtb.specs.declared.addr.Addr.{Addr};
 ghost use Rattle.tx_eqtb.specs.Addresses.{entry_at, update};
@@ -33,5 +33,14 @@ pub(crate) fn lower_level(levels: &mut IndexMap<Addr, u8>, at: Addr)
 {
     if level_of(levels, at) != 1 {
         write_level(levels, at, 1);
+    }
+}
+
+/// Gives an address the level that its meaning outside has, unless what it means is global. It takes no memory.
+pub(crate) fn give_level_back(levels: &mut IndexMap<Addr, u8>, at: Addr, outer: u8)
+    ensures { (q : Addr) → level_at levels.new.entries q ≡ (if level_at levels.old.entries at == 1 then level_at levels.old.entries q else update (level_at levels.old.entries) at outer q) }
+{
+    if level_of(levels, at) != 1 {
+        write_level(levels, at, outer);
     }
 }

@@ -1,16 +1,16 @@
 //! The save stack.
 
-ghost use Rattle.std.specs.Prelude.{◌≡◌, ◌≢◌, ◌+◌, ◌<◌, ◌∷◌, ◌++◌, [], ◌↔◌, false, true, if◌then◌else◌, map, reverse, Err, IfOk, IfErr, IfNone, OnOk, OnErr, length, vec_capacity, IsTrue, ⊤};
+ghost use Rattle.std.specs.Prelude.{◌≡◌, ◌≢◌, ◌+◌, ◌<◌, ◌∷◌, ◌++◌, [], ◌↔◌, false, true, if◌then◌else◌, map, reverse, Err, IfOk, IfErr, IfNone, IfSome, OnOk, OnErr, length, vec_capacity, IsTrue, ⊤};
 ghost use Rattle.std.specs.Option.{option_to_list};
 ghost use Rattle.tx_eqtb.specs.Addresses.{update};
 ghost use Rattle.tx_eqtb.specs.Meanings.{Map};
 ghost use Rattle.tx_eqtb.specs.Tables.{Table, noted, now, before, held, SameCounts};
 ghost use Rattle.tx_eqtb.specs.Steps.{Sets, KeepsBefore, moved};
 ghost use Rattle.tx_save.specs.Levels.{level_at};
-ghost use Rattle.tx_save.specs.Saves.{below, groups, saved, all_held, outermost, Fits, ChangesOutside, CanUnsave, Unsaves, Closes, dropped};
+ghost use Rattle.tx_save.specs.Saves.{below, outside, groups, saved, all_held, outermost, Fits, ChangesOutside, CanUnsave, Unsaves, Closes, dropped, Abandons, abandoned};
 
 use crate::group::{Closed, Group, GroupKind, SaveRefused};
-use crate::levels::{level_of, lower_level, write_level};
+use crate::levels::{give_level_back, level_of, lower_level, write_level};
 use crate::save::Save;
 use indexmap::IndexMap;
 use std::alloc::{AllocError, Global};
@@ -59,10 +59,13 @@ impl<B> SaveStack<B> {
         }
     }
 
-    /// The level: 1 where no group is open. There all that is saved goes back into any table.
+    /// The level: 1 where no group is open. There all that is saved goes back into any table, and there is no
+    /// map but the present one.
     pub fn level(&self) -> u8
         ensures level { result ≡ self.now.level }
+        ensures least { 0 < result }
         ensures outermost { self.now.level ≡ 1 → (table : Table B) → Fits table self.now }
+        ensures alone { self.now.level ≡ 1 → (frozen : Map B) (table : Table B) → outside frozen table self.now ≡ [] }
     {
         self.level
     }
@@ -150,6 +153,33 @@ impl<B> SaveStack<B> {
                 Closed::End(kind, after)
             }
             None => unreachable!(),
+        }
+    }
+
+    /// Gives groups up, as where a region fails: takes the newest saved entry away and puts nothing back,
+    /// whatever the overlay is, or ends the innermost group where it has none left. What the entry holds
+    /// is handed out. None comes exactly where nothing is left. Then no group is open, and any table is
+    /// one into which all that is saved goes back. It takes no memory.
+    pub fn abandon(&mut self) -> Option<Closed<B>>
+        ensures step { IfSome result (λ step. Abandons self.old step self.new) }
+        ensures fewer { IfSome result (λ step. length self.old.stack ≡ length self.new.stack + 1) }
+        ensures saved { saved self.old.stack ≡ abandoned result ++ saved self.new.stack }
+        ensures held { (table : Table B) → SameCounts (all_held table self.old) (abandoned result ++ all_held table self.new) }
+        ensures end { IfNone result ((self.old.stack ≡ []) × (self.old.level ≡ 1) × (groups self.old ≡ [])) }
+        ensures unchanged { IfNone result (self.new ≡ self.old) }
+        ensures fits { IfNone result ((table : Table B) → Fits table self.new) }
+    {
+        let newest = pop_save(&mut self.saves)?;
+        match newest {
+            Save::Saved(at, old, outer) => {
+                give_level_back(&mut self.levels, at, outer);
+                Some(Closed::Dropped(handed(old)))
+            }
+            Save::Mark(outer) => {
+                self.level -= 1;
+                let Group { kind, after } = mem::replace(&mut self.group, outer);
+                Some(Closed::End(kind, after))
+            }
         }
     }
 

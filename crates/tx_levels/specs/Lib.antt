@@ -1,0 +1,5 @@
+pub mod Wholes
+pub mod Levels
+pub mod Agreement
+pub mod Calls
+pub mod Laws
