@@ -3,7 +3,6 @@ pub mod UndoLemmas
 pub mod PieceLemmas
 pub mod SceneLemmas
 pub mod ShowLemmas
-pub mod OpenLemmas
 pub mod RunLemmas
 pub mod StateLemmas
 pub mod StartLemmas

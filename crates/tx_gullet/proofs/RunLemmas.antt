@@ -8,9 +8,9 @@ use Rattle.tx_model.specs.World.{World, Output, Failure, failure, Finds-none, Sp
 use Rattle.tx_model.specs.Moves.{Kind, Move, Sub, Take, Again, Done, Bad, expansion}
 use Rattle.tx_model.specs.Moves as moves
 use Rattle.tx_model.specs.Reads.{Result, Gave, Failed, Spent}
-use Rattle.tx_gullet.specs.Opens.{Open, begun, Then, ComesGiven, GoesOn}
-use Rattle.tx_gullet.specs.Opens as opens
-use Rattle.tx_gullet.proofs.OpenLemmas.{comes-end, comes-spent, comes-broken, comes-text-end, comes-expanding-spent, comes-expanding-broken, given-goes, given-within, given-again, given-done, given-bad, comes-to-end}
+use Rattle.tx_model.specs.Opens.{Open, begun, Then, ComesGiven, GoesOn}
+use Rattle.tx_model.specs.Opens as opens
+use Rattle.tx_model.proofs.Opens.{comes-end, comes-spent, comes-broken, comes-text-end, comes-expanding-spent, comes-expanding-broken, given-goes, given-within, given-again, given-done, given-bad, comes-to-end}
 use Rattle.tx_names.specs.Names.{Names, Naming, KeepsApart, Agrees}
 use Rattle.tx_model.specs.Tokens.{Token}
 use Rattle.tx_model.specs.Scanner.{Rest}

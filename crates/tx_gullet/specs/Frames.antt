@@ -5,7 +5,7 @@ use Rattle.tx_model.specs.Tokens as token
 use Rattle.tx_model.specs.World.{World, Command, failure}
 use Rattle.tx_model.specs.Moves.{Kind, Move, Take, Sub, Again, Done, Bad, move_in, balanced, message, message_text, definition, definition_of, definition_body}
 use Rattle.tx_model.specs.Moves as moves
-use Rattle.tx_gullet.specs.Opens.{Open, Stands, GoesOn}
+use Rattle.tx_model.specs.Opens.{Open, Stands, GoesOn}
 use Rattle.tx_tok.specs.declared.tok.Tok.{Tok}
 use Rattle.tx_tok.specs.Tokens.{token_in, tokens_in}
 use Rattle.tx_names.specs.Names.{Names, Naming, KeepsApart, Agrees}

@@ -5,6 +5,5 @@ pub mod Pieces
 pub mod Spent
 pub mod Scenes
 pub mod Frames
-pub mod Opens
 pub mod States
 pub mod Runs

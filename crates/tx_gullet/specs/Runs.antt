@@ -5,8 +5,8 @@ use Rattle.tx_model.specs.Environment.{Map, Environment}
 use Rattle.tx_model.specs.Region.{Region, started, outermost}
 use Rattle.tx_model.specs.Moves as moves
 use Rattle.tx_model.specs.Reads.{Result, Gave, Failed, Spent}
-use Rattle.tx_gullet.specs.Opens.{Open, begun, Then, ComesGiven}
-use Rattle.tx_gullet.specs.Opens as opens
+use Rattle.tx_model.specs.Opens.{Open, begun, Then, ComesGiven}
+use Rattle.tx_model.specs.Opens as opens
 use Rattle.tx_tok.specs.declared.tok.Tok.{Tok}
 use Rattle.tx_names.specs.Names.{Names, Naming, KeepsApart, Agrees, first_texts}
 use Rattle.tx_gullet.specs.declared.meaning.Meaning.{Meaning}

@@ -1,8 +1,9 @@
 //! Both sides.
 
-ghost use Rattle.std.specs.Prelude.{◌≡◌, ◌+◌, length, IfOk, IsTrue};
+ghost use Rattle.std.specs.Prelude.{◌≡◌, ◌+◌, length, IfOk};
 ghost use Rattle.std.specs.List.{fold};
 ghost use Rattle.tx_eqtb.specs.Meanings.{meanings};
+ghost use Rattle.tx_eqtb.specs.Tables.{now};
 ghost use Rattle.tx_levels.specs.Wholes.{leads, integer_of};
 ghost use Rattle.tx_levels.specs.Levels.{at_start};
 ghost use Rattle.tx_levels.specs.Calls.{after};
@@ -177,20 +178,18 @@ impl Both {
         })
     }
 
-    /// The integer that an address means now, if it means one.
+    /// The integer that an address means now by the table, if it means one.
     pub fn integer(&self, frozen: &Frozen<u8>, at: Addr) -> Option<i32>
-        ensures { result ≡ integer_of (leads self.now.levels.innermost (meanings frozen.now) at) }
+        ensures { result ≡ integer_of (now (meanings frozen.now) self.now.table at) }
     {
-        let _ = &self.levels;
         integer(self.over.get(frozen, at))
     }
 
-    /// Whether an address means the same integer on both sides, or none on both.
-    pub fn agree(&self, frozen: &Frozen<u8>, at: Addr) -> bool
-        ensures { IsTrue result }
+    /// The integer that it means by the list of whole maps, if it means one.
+    pub fn listed(&self, frozen: &Frozen<u8>, at: Addr) -> Option<i32>
+        ensures { result ≡ integer_of (leads self.now.levels.innermost (meanings frozen.now) at) }
     {
-        let _ = &self.levels;
-        integer(self.over.get(frozen, at)) == self.levels.integer(frozen, at)
+        self.levels.integer(frozen, at)
     }
 
     /// Both sides go through a call. The only error is want of memory, and then both are gone.

@@ -5,9 +5,17 @@ use Rattle.tx_model.specs.World.{World, Output, Failure, failure, Command, Takes
 use Rattle.tx_model.specs.declared.error.Error.{Error}
 use Rattle.tx_model.specs.Moves.{Kind, Expanded, Value, TextEnd, Unexpandable, Item, Tok, End, Given, Move, Take, Sub, Again, Done, Bad, move_in, expansion}
 use Rattle.tx_model.specs.Reads.{Result, Gave, Failed, Spent, passing, reads, follow, Reads}
-use Rattle.tx_model.specs.Region.{outcome_of}
-use Rattle.tx_model.specs.Opens.{Open, begun, Stands, Then, Comes, ComesGiven, GoesOn}
+use Rattle.tx_model.specs.Region.{outcome_of, left_by}
+use Rattle.tx_model.specs.Opens.{Open, begun, Stands, TellsSame, Then, Comes, ComesGiven, GoesOn}
 use Rattle.tx_model.proofs.Steps.{reads-done, reads-bad, reads-again, reads-takes, reads-end, reads-spends, reads-breaks, reads-gave, reads-failed, reads-spent}
+
+-- what results that are the same tell
+pub same-tell : (s r : Result) → s ≡ r → TellsSame s r
+same-tell s r e = record { outcome = ap outcome_of e; left = λ map. ap (left_by map) e }
+
+-- of a value nothing is told
+pub gave-tell : (v value : Value) (w : World) (r : Result) → Gave v w ≡ r → TellsSame (Gave value w) r
+gave-tell v value w r e = record { outcome = ap outcome_of e; left = λ map. ap (left_by map) e }
 
 -- a reading that was given one item more
 longer : (k : Kind) (old new : List Item → World → Move) (item : Item) (items : List Item) → GoesOn old item new → Stands (record { kind = k; says = old }) items → Stands (record { kind = k; says = new }) (items ++ item ∷ [])
@@ -20,11 +28,11 @@ here o items w m stands says = ap (λ xs. move_in o.kind xs w) (sym (append-nil 
 
 -- a failure, or the want of a step, within a reading is that of those around it
 then-failed : (outer : List Open) (f : Failure) (r : Result) → Failed f ≡ r → Then outer (Failed f) r
-then-failed [] f r e = ap outcome_of e
+then-failed [] f r e = same-tell (Failed f) r e
 then-failed (o ∷ outer) f r e = e
 
 then-spent : (outer : List Open) (output : Output) (r : Result) → Spent output ≡ r → Then outer (Spent output) r
-then-spent [] output r e = ap outcome_of e
+then-spent [] output r e = same-tell (Spent output) r e
 then-spent (o ∷ outer) output r e = e
 
 -- a token is taken as it stands
@@ -175,5 +183,5 @@ given-bad k old item outer w w' error r bad e items stands =
     (Failed (failure error w'), reads-bad k (items ++ item ∷ []) w error w' (stands (item ∷ []) w ∙ bad), then-failed outer (failure error w') r e)
 
 -- the whole: what main control comes to from its start
-pub comes-to-end : (k : Kind) (w : World) (r : Result) → Comes (begun k) [] w r → (s : Result) × Reads k [] w s × (outcome_of s ≡ outcome_of r)
+pub comes-to-end : (k : Kind) (w : World) (r : Result) → Comes (begun k) [] w r → (s : Result) × Reads k [] w s × TellsSame s r
 comes-to-end k w r comes = comes [] (λ later v. refl)

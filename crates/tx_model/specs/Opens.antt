@@ -3,7 +3,8 @@ use Rattle.std.specs.Prelude.{◌≡◌, List, [], ◌∷◌, ◌++◌}
 use Rattle.tx_model.specs.World.{World}
 use Rattle.tx_model.specs.Moves.{Kind, Item, Given, Move, move_in}
 use Rattle.tx_model.specs.Reads.{Result, Gave, Failed, Spent, Reads}
-use Rattle.tx_model.specs.Region.{outcome_of}
+use Rattle.tx_model.specs.Environment.{Map}
+use Rattle.tx_model.specs.Region.{outcome_of, left_by}
 
 -- An open reading: its kind, and what it says of all items to come, whatever world they come in.
 pub record Open : Type 0 where
@@ -18,9 +19,14 @@ begun kind = record { kind = kind; says = move_in kind }
 abbrev pub Stands : Open → List Item → Type 0
 Stands o items = (later : List Item) (w : World) → move_in o.kind (items ++ later) w ≡ o.says later w
 
--- Where the innermost reading ends so, those around it come to what this outcome tells.
+-- two results of a region tell the same: the outcome, and the state that is left
+pub record TellsSame (s r : Result) : Type 0 where
+  pub outcome : outcome_of s ≡ outcome_of r
+  pub left : (map : Map) → left_by map s ≡ left_by map r
+
+-- Where the innermost reading ends so, those around it come to what this result tells.
 abbrev pub Then : List Open → Result → Result → Type 0
-Then [] s r = outcome_of s ≡ outcome_of r
+Then [] s r = TellsSame s r
 Then (o ∷ outer) (Gave value w) r =
     (items : List Item) → Stands o items → (s : Result) × Reads o.kind (items ++ Given value ∷ []) w s × Then outer s r
 Then (o ∷ outer) (Failed f) r = Failed f ≡ r

@@ -2,10 +2,10 @@ use Rattle.std.proofs.Common.{◌≡◌, ◌≢◌, sym, ◌∙◌, ap, subst, l
 use Rattle.std.proofs.lemmas.Bool.Decides.{nat_tests}
 use Rattle.tx_model.specs.Moves.{TextEnd}
 use Rattle.tx_model.specs.Reads.{Gave}
-use Rattle.tx_gullet.specs.Opens.{Then}
+use Rattle.tx_model.specs.Opens.{Then}
 use Rattle.tx_gullet.specs.Scenes.{world_of}
 use Rattle.tx_gullet.specs.Runs.{outer}
-use Rattle.tx_gullet.proofs.OpenLemmas.{gave-tell}
+use Rattle.tx_model.proofs.Opens.{gave-tell}
 use Rattle.tx_gullet.proofs.RunLemmas.{done-at-end, then-waiting, outer-empty}
 use Rattle.tx_gullet.proofs.running.Running.control_ended.Goals as goal
 

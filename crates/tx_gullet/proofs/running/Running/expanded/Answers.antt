@@ -2,7 +2,7 @@ use Rattle.std.proofs.Common.{refl, sym, ◌∙◌, ap}
 use Rattle.tx_model.specs.declared.error.Error.TheVariants.{UndefinedControlSequence}
 use Rattle.tx_model.specs.World.{Takes}
 use Rattle.tx_model.specs.Moves.{Again}
-use Rattle.tx_gullet.proofs.OpenLemmas.{comes-unexpanded, comes-expanded, comes-unexpandable}
+use Rattle.tx_model.proofs.Opens.{comes-unexpanded, comes-expanded, comes-unexpandable}
 use Rattle.tx_gullet.specs.declared.meaning.Meaning.TheVariants as meaning
 use Rattle.tx_gullet.specs.Scenes.{world_of}
 use Rattle.tx_gullet.specs.Frames.{command_in, open_of, wished}

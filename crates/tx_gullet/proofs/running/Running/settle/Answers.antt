@@ -1,13 +1,13 @@
 use Rattle.std.proofs.Common.{◌-◌, [], ◌++◌, take, sym, ◌∙◌, ap, subst}
 use Rattle.tx_model.specs.Moves.{Control, Given}
 use Rattle.tx_model.specs.Reads.{Gave}
-use Rattle.tx_gullet.specs.Opens.{Then}
-use Rattle.tx_gullet.specs.Opens as opens
+use Rattle.tx_model.specs.Opens.{Then}
+use Rattle.tx_model.specs.Opens as opens
 use Rattle.tx_names.specs.Names.{Agrees}
 use Rattle.tx_gullet.specs.Scenes.{world_of}
 use Rattle.tx_gullet.specs.Frames.{awaits, open_of, outer_of, value_in}
 use Rattle.tx_gullet.specs.Runs.{EndsBy, outer}
-use Rattle.tx_gullet.proofs.OpenLemmas.{gave-tell}
+use Rattle.tx_model.proofs.Opens.{gave-tell}
 use Rattle.tx_gullet.proofs.UndoLemmas.{keeps-through}
 use Rattle.tx_gullet.proofs.RunLemmas.{answered, outer-pushed}
 use Rattle.tx_gullet.proofs.running.Running.settle.Goals as goal

@@ -1,6 +1,6 @@
 use Rattle.std.proofs.Common.{false, sym, ◌∙◌, ap}
 use Rattle.tx_model.specs.World.{Takes}
-use Rattle.tx_gullet.proofs.OpenLemmas.{comes-token}
+use Rattle.tx_model.proofs.Opens.{comes-token}
 use Rattle.tx_tok.specs.Tokens.{token_in}
 use Rattle.tx_gullet.specs.Scenes.{world_of}
 use Rattle.tx_gullet.specs.Frames.{command_in, open_of, wished}
