@@ -1,9 +1,10 @@
 -- More moves change nothing, so a reading ends in one way at the most.
-use Rattle.std.proofs.Common.{◌≡◌, ℕ, zero, suc, ◌+◌, List, [], ◌∷◌, ◌++◌, Option, None, Some, refl, arith, zero-add, add_comm}
-use Rattle.tx_private.specs.World.{World, Taking, Takes, Finds-none, Spends, Breaks, taking}
+use Rattle.std.proofs.Common.{◌≡◌, ℕ, zero, suc, ◌+◌, pos, Bool, true, false, cond, nat_lt, List, [], ◌∷◌, ◌++◌, Option, None, Some, refl, arith, zero-add, add_comm}
+use Rattle.tx_private.specs.World.{World, Taking, Takes, Finds-none, Spends, Breaks, taking, failure, is_overfull}
 use Rattle.tx_private.specs.Readings.{Kind, Value, Item, Tok, End, Given, Move, Take, Sub, Again, Done, Bad}
+use Rattle.tx_private.specs.Errors.{numbered}
 use Rattle.tx_private.specs.Moves.{move_in}
-use Rattle.tx_private.specs.Reads.{Result, Gave, Failed, Spent, passing, taken, follow, reads, Reads}
+use Rattle.tx_private.specs.Reads.{Result, Gave, Failed, Spent, passing, taken, counts, checked, within_reading, follow, reads, Reads}
 
 -- what one way of going on ends with, so does the other
 abbrev Covers : (Kind → List Item → World → Option Result) → (Kind → List Item → World → Option Result) → Type 0
@@ -21,12 +22,32 @@ passing-more go more h (Some (Gave value w)) p inner r e = rw (inner (Gave value
 passing-more go more h (Some (Failed f)) p inner r e = rw (inner (Failed f) refl) e
 passing-more go more h (Some (Spent o)) p inner r e = rw (inner (Spent o) refl) e
 
+checked-more : (w : World) (o p : Option Result) → ((r : Result) → o ≡ Some r → p ≡ Some r) → (r : Result) → checked w o ≡ Some r → checked w p ≡ Some r
+checked-more w o p more r e = by-test (is_overfull w) more e
+  where
+    by-test : (t : Bool) → ((s : Result) → o ≡ Some s → p ≡ Some s) → cond t (Some (Failed (failure (numbered 57 4 (pos 0)) w))) o ≡ Some r → cond t (Some (Failed (failure (numbered 57 4 (pos 0)) w))) p ≡ Some r
+    by-test true h x = x
+    by-test false h x = h r x
+
+within-more : (begin begin' : World → Option Result) (go go' : Value → World → Option Result) (weight : ℕ) (w : World) → ((v : World) (r : Result) → begin v ≡ Some r → begin' v ≡ Some r) → ((value : Value) (v : World) (r : Result) → go value v ≡ Some r → go' value v ≡ Some r) → (r : Result) → within_reading begin go weight w ≡ Some r → within_reading begin' go' weight w ≡ Some r
+within-more begin begin' go go' weight w first then r e = by-test (nat_lt 500 (w.depth + weight)) e
+  where
+    deeper : World
+    deeper = record w { depth = w.depth + weight }
+
+    by-test : (t : Bool) → cond t (Some (Failed (failure (numbered 57 6 (pos 0)) w))) (passing (λ value v. go value (record v { depth = w.depth })) (begin deeper)) ≡ Some r → cond t (Some (Failed (failure (numbered 57 6 (pos 0)) w))) (passing (λ value v. go' value (record v { depth = w.depth })) (begin' deeper)) ≡ Some r
+    by-test true x = x
+    by-test false x =
+        passing-more (λ value v. go value (record v { depth = w.depth })) (λ value v. go' value (record v { depth = w.depth })) (λ value v. then value (record v { depth = w.depth })) (begin deeper) (begin' deeper) (first deeper) r x
+
 follow-more : (go more : Kind → List Item → World → Option Result) → Covers go more → (k : Kind) (items : List Item) (m : Move) (r : Result) → follow go k items m ≡ Some r → follow more k items m ≡ Some r
 follow-more go more h k items (Take w) r e =
-    taken-more (λ item v. go k (items ++ item ∷ []) v) (λ item v. more k (items ++ item ∷ []) v) (λ item v r'. h k (items ++ item ∷ []) v r') (taking w) r e
+    checked-more w (taken (λ item v. go k (items ++ item ∷ []) v) (taking w)) (taken (λ item v. more k (items ++ item ∷ []) v) (taking w))
+    (λ s x. taken-more (λ item v. go k (items ++ item ∷ []) v) (λ item v. more k (items ++ item ∷ []) v) (λ item v r'. h k (items ++ item ∷ []) v r') (taking w) s x) r e
 follow-more go more h k items (Sub within w) r e =
-    passing-more (λ value v. go k (items ++ Given value ∷ []) v) (λ value v. more k (items ++ Given value ∷ []) v) (λ value v r'. h k (items ++ Given value ∷ []) v r') (go within [] w) (more within [] w) (h within [] w) r e
-follow-more go more h k items (Again w) r e = h k [] w r e
+    checked-more w (within_reading (go within []) (λ value v. go k (items ++ Given value ∷ []) v) (counts within) w) (within_reading (more within []) (λ value v. more k (items ++ Given value ∷ []) v) (counts within) w)
+    (λ s x. within-more (go within []) (more within []) (λ value v. go k (items ++ Given value ∷ []) v) (λ value v. more k (items ++ Given value ∷ []) v) (counts within) w (h within []) (λ value v r'. h k (items ++ Given value ∷ []) v r') s x) r e
+follow-more go more h k items (Again w) r e = checked-more w (go k [] w) (more k [] w) (λ s x. h k [] w s x) r e
 follow-more go more h k items (Done value w) r e = e
 follow-more go more h k items (Bad error w) r e = e
 

@@ -18,7 +18,7 @@ use Rattle.tx_private.specs.Environment.{assigning, parameter_of, present}
 use Rattle.tx_private.specs.World.{World, Command, put_in_front, with_environment}
 use Rattle.tx_private.specs.Readings.{Kind, Expanded, Balanced, ExpandedBalanced, OptionalEquals, Number, DimensionOf, GlueOf, Keyword, ListValue, Value, Unexpandable, Tokens, Amount, Word, Nothing, Item, Tok, End, Given, Move, Take, Sub, Again, Done, Bad}
 use Rattle.tx_private.specs.Quantities.{is_math_parameter, quantity_at, in_byte, byte_first, register_of, codes_of}
-use Rattle.tx_private.specs.Lists.{is_space, is_equals}
+use Rattle.tx_private.specs.Lists.{is_space, is_equals, storing}
 
 -- what may stand before an assignment
 pub record Prefixes : Type 0 where
@@ -128,7 +128,7 @@ abbrev pub defined : Prefixes → Bool → Address → List Item → World → M
 defined p expands at [] w = Take w
 defined p expands at (Tok c ∷ []) w = if is_left_brace c.token then Sub (body_kind expands) w else Bad (plain 63) w
 defined p expands at (Tok c ∷ Given (Tokens body) ∷ items) w =
-    assigns p at (Macro' (record { long = p.long; protected = p.protected; body = body })) w
+    storing body w (λ v. assigns p at (Macro' (record { long = p.long; protected = p.protected; body = body })) v)
 defined p expands at _ w = Bad (plain 63) w
 
 -- \let: the meaning of the token behind an equals sign, which may be missing, and a space

@@ -2,6 +2,7 @@
 use Rattle.std.specs.Prelude.{ℕ, zero, suc, ℤ, pos, nat_lt, ◌==◌, Bool, true, false, ◌||◌, List, [], ◌∷◌, ◌++◌, length, map, Option, Some, None, if◌then◌else◌}
 use Rattle.tx_model.specs.declared.category.Cat.TheVariants as cat
 use Rattle.tx_model.specs.Tokens.{Token, Char}
+use Rattle.tx_model.specs.Pending.{Member, Single, Text}
 use Rattle.tx_model.specs.Shown.{shown_in_list}
 use Rattle.std.specs.List.{flat_map}
 use Rattle.tx_prims.specs.declared.primitives.Primitive.TheVariants as primitive
@@ -9,12 +10,13 @@ use Rattle.tx_prims.specs.declared.primitives.Assignment.{Assignment}
 use Rattle.tx_prims.specs.declared.primitives.Assignment.TheVariants as assignment
 use Rattle.tx_prims.specs.declared.primitives.Command.{Command as Primitive}
 use Rattle.tx_prims.specs.declared.primitives.Command.TheVariants as command
-use Rattle.tx_prims.specs.declared.primitives.IntegerParameter.TheVariants.{EscapeChar}
+use Rattle.tx_prims.specs.declared.primitives.IntegerParameter.TheVariants.{EscapeChar, HangAfter}
+use Rattle.tx_prims.specs.declared.primitives.DimensionParameter.TheVariants.{HangIndent}
 use Rattle.tx_save.specs.declared.group.GroupKind.{GroupKind}
 use Rattle.tx_save.specs.declared.group.GroupKind.TheVariants as group
 use Rattle.tx_private.specs.Errors.{plain, numbered, showing}
-use Rattle.tx_private.specs.Meanings.{Register, Count, Dimen, Skip, MuSkip, Toks, CodeTable, LowerCases, UpperCases, OfRegister, OfCode, OfInteger, OfDimension, OfGlue, OfList, Meaning, Prim, Character, Code, Register'}
-use Rattle.tx_private.specs.Environment.{Level, Environment, present, beginning, integer_in, category_of, parameter_of}
+use Rattle.tx_private.specs.Meanings.{Register, Count, Dimen, Skip, MuSkip, Toks, CodeTable, LowerCases, UpperCases, OfRegister, OfCode, OfInteger, OfDimension, OfGlue, OfList, Meaning, Prim, Character, Code, Register', Integer, Dimension}
+use Rattle.tx_private.specs.Environment.{assigning, Level, Environment, present, beginning, integer_in, category_of, parameter_of}
 use Rattle.tx_private.specs.World.{World, Command, put_in_front, with_environment, logged}
 use Rattle.tx_private.specs.Readings.{Expanded, Balanced, ExpandedBalanced, LeftBrace, Value, Unexpandable, TextEnd, Tokens, Nothing, Item, Tok, End, Given, Move, Take, Sub, Again, Done, Bad}
 use Rattle.tx_private.specs.Described.{meaning_text}
@@ -107,12 +109,31 @@ abbrev pub ended : List Level → World → Move
 ended [] w = Done TextEnd w
 ended (level ∷ levels) w = Bad (numbered 59 0 (pos (length (level ∷ levels)))) w
 
+-- a preamble can't be dumped inside a group
+abbrev pub dumped : Bool → List Level → World → Move
+dumped true (level ∷ levels) w = Bad (plain 58) w
+dumped _ levels w = ended levels w
+
+-- at a paragraph's end, and between paragraphs, its lines hang no more
+abbrev pub straightened : World → World
+straightened w =
+    with_environment (assigning false (OfInteger HangAfter) (Integer (pos 1)) (assigning false (OfDimension HangIndent) (Dimension (pos 0)) w.environment)) w
+
+-- all that is pending is dropped; the number of the line stays
+abbrev pub only_line : List Member → List Member
+only_line [] = []
+only_line (Single t marked ∷ members) = only_line members
+only_line (Text rest ∷ members) = Text (record rest { unread = []; later = [] }) ∷ []
+
+abbrev pub without_rest : World → World
+without_rest w = record w { pending = only_line w.pending }
+
 -- a command of the family of commands
 abbrev pub commands : Primitive → List Item → World → Move
 commands command.Relax items w = Again w
-commands command.Par items w = Again w
-commands command.End items w = ended w.environment.groups (record w { pending = [] })
-commands command.Dump items w = ended w.environment.groups (record w { pending = [] })
+commands command.Par items w = Again (straightened w)
+commands command.End items w = ended w.environment.groups (without_rest w)
+commands command.Dump items w = dumped w.preamble w.environment.groups (without_rest w)
 commands command.BeginGroup items w = opens group.Semi w
 commands command.EndGroup items w = close_group w.environment.groups w
 commands command.AfterGroup items w = after_group items w

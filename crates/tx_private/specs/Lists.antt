@@ -1,16 +1,34 @@
 -- Balanced texts, braces and values of lists. *TeX: The Program*, part 26 and 27.
-use Rattle.std.specs.Prelude.{ℕ, zero, suc, ◌+◌, ◌==◌, Bool, true, false, List, [], ◌∷◌, ◌++◌, Option, Some, None, if◌then◌else◌}
+use Rattle.std.specs.Prelude.{ℕ, zero, suc, pos, ◌+◌, ◌==◌, nat_lt, Bool, true, false, List, [], ◌∷◌, ◌++◌, length, Option, Some, None, if◌then◌else◌}
 use Rattle.tx_model.specs.declared.category.Cat.TheVariants as cat
 use Rattle.tx_model.specs.Tokens.{Token, Char, is_left_brace, is_right_brace}
 use Rattle.tx_prims.specs.declared.primitives.Primitive.TheVariants as primitive
 use Rattle.tx_prims.specs.declared.primitives.Assignment.TheVariants as assignment
 use Rattle.tx_prims.specs.declared.primitives.Command.TheVariants as command
-use Rattle.tx_private.specs.Errors.{plain}
+use Rattle.tx_private.specs.Errors.{plain, numbered}
 use Rattle.tx_private.specs.Meanings.{Toks, OfRegister, OfList, Meaning, Prim, Character, Register'}
 use Rattle.tx_private.specs.World.{World, Command, put_in_front}
 use Rattle.tx_private.specs.Readings.{Expanded, Balanced, Value, Unexpandable, TextEnd, Tokens, Nothing, Item, Tok, End, Given, Move, Take, Sub, Done, Bad}
 use Rattle.tx_private.specs.Quantities.{byte_first}
 use Rattle.tx_private.specs.Expansions.{list_at}
+
+-- at most so many tokens stand in one list
+abbrev pub most_in_list : ℕ
+most_in_list = 262144
+
+-- the tokens of the lists that a run may store
+abbrev pub most_stored : Bool → ℕ
+most_stored preamble = if preamble then 4194304 else 1048576
+
+-- a list is stored, and counts by its length
+abbrev pub storing : List Token → World → (World → Move) → Move
+storing tokens w further =
+    if nat_lt (most_stored w.preamble) (w.stored + length tokens) then Bad (numbered 57 5 (pos (most_stored w.preamble))) w
+    else further (record w { stored = w.stored + length tokens })
+
+-- what was read of a list leads on, if it is not too long
+abbrev pub bounded : World → (ℕ → List Token → Move) → ℕ → List Token → Move
+bounded w further groups tokens = if nat_lt most_in_list (length tokens) then Bad (numbered 57 5 (pos most_in_list)) w else further groups tokens
 
 -- A right brace ends the text whose left brace was taken before, if all groups in it are closed.
 abbrev pub closed_in : ℕ → List Token → Token → World → (ℕ → List Token → Move) → Move
@@ -34,7 +52,7 @@ with_item groups tokens _ w further = Bad (plain 63) w
 -- a balanced text of which these tokens were taken, each further one by this wish
 abbrev pub balanced : (World → Move) → ℕ → List Token → List Item → World → Move
 balanced wish groups tokens [] w = wish w
-balanced wish groups tokens (item ∷ items) w = with_item groups tokens item w (λ n more. balanced wish n more items w)
+balanced wish groups tokens (item ∷ items) w = with_item groups tokens item w (bounded w (λ n more. balanced wish n more items w))
 
 -- spaces and \relax are skipped before a left brace
 abbrev pub is_skipped : Meaning → Bool
@@ -77,7 +95,7 @@ list_from (Prim (primitive.ListParameter p)) items w = Done (Tokens (list_at (Of
 list_from (Prim (primitive.Assignment assignment.Toks)) items w =
     byte_first 15 (λ n rest v. Done (Tokens (list_at (OfRegister Toks n) v)) v) items w
 list_from (Character cat.Begin b) [] w = Sub Balanced w
-list_from (Character cat.Begin b) (Given (Tokens tokens) ∷ items) w = Done (Tokens tokens) w
+list_from (Character cat.Begin b) (Given (Tokens tokens) ∷ items) w = storing tokens w (λ v. Done (Tokens tokens) v)
 list_from _ items w = Bad (plain 8) w
 
 abbrev pub list_value : List Item → World → Move

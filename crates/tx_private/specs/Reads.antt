@@ -1,7 +1,8 @@
 -- A run of readings: all recursion of the definitions is here.
-use Rattle.std.specs.Prelude.{ℕ, zero, suc, ◌≡◌, List, [], ◌∷◌, ◌++◌, Option, None, Some}
-use Rattle.tx_private.specs.World.{World, Output, Failure, failure, Taking, Takes, Finds-none, Spends, Breaks, taking}
-use Rattle.tx_private.specs.Readings.{Kind, Value, Item, Tok, End, Given, Move, Take, Sub, Again, Done, Bad}
+use Rattle.std.specs.Prelude.{ℕ, zero, suc, ◌+◌, ◌≡◌, pos, nat_lt, if◌then◌else◌, List, [], ◌∷◌, ◌++◌, Option, None, Some}
+use Rattle.tx_private.specs.World.{World, Output, Failure, failure, Taking, Takes, Finds-none, Spends, Breaks, taking, is_overfull}
+use Rattle.tx_private.specs.Readings.{Kind, Control, Expanded, ExpandedInText, LeftBrace, OptionalEquals, QuantityFrom, ListValue, Value, Item, Tok, End, Given, Move, Take, Sub, Again, Done, Bad}
+use Rattle.tx_private.specs.Errors.{numbered}
 use Rattle.tx_private.specs.Moves.{move_in}
 
 -- how a reading ends
@@ -26,11 +27,32 @@ taken go (Finds-none w) = go End w
 taken go (Spends o) = Some (Spent o)
 taken go (Breaks f) = Some (Failed f)
 
+-- The readings that count: at most 500 of them are open, one within another.
+abbrev pub counts : Kind → ℕ
+counts Control = 0
+counts Expanded = 0
+counts ExpandedInText = 0
+counts LeftBrace = 0
+counts OptionalEquals = 0
+counts (QuantityFrom command) = 0
+counts ListValue = 0
+counts _ = 1
+
+-- the beginning of a reading within another one, and what becomes of its result
+abbrev pub within_reading : (World → Option Result) → (Value → World → Option Result) → ℕ → World → Option Result
+within_reading begin go weight w =
+    if nat_lt 500 (w.depth + weight) then Some (Failed (failure (numbered 57 6 (pos 0)) w))
+    else passing (λ value v. go value (record v { depth = w.depth })) (begin (record w { depth = w.depth + weight }))
+
+-- where more tokens are pending than may be, the run fails
+abbrev pub checked : World → Option Result → Option Result
+checked w r = if is_overfull w then Some (Failed (failure (numbered 57 4 (pos 0)) w)) else r
+
 abbrev pub follow : (Kind → List Item → World → Option Result) → Kind → List Item → Move → Option Result
-follow go k items (Take w) = taken (λ item v. go k (items ++ item ∷ []) v) (taking w)
-follow go k items (Sub within w) = passing (λ value v. go k (items ++ Given value ∷ []) v) (go within [] w)
-follow go k items (Again w) = go k [] w
-follow go k items (Done value w) = Some (Gave value w)
+follow go k items (Take w) = checked w (taken (λ item v. go k (items ++ item ∷ []) v) (taking w))
+follow go k items (Sub within w) = checked w (within_reading (go within []) (λ value v. go k (items ++ Given value ∷ []) v) (counts within) w)
+follow go k items (Again w) = checked w (go k [] w)
+follow go k items (Done value w) = checked w (Some (Gave value w))
 follow go k items (Bad error w) = Some (Failed (failure error w))
 
 -- how a reading ends that was given these items, if that takes at most so many moves one after another

@@ -1,5 +1,5 @@
 -- A region: what the private TeX answers to a text and a budget.
-use Rattle.std.specs.Prelude.{ℕ, ◌≡◌, List, [], ◌∷◌, ◌++◌, Option, None, Some}
+use Rattle.std.specs.Prelude.{ℕ, Bool, ◌≡◌, List, [], ◌∷◌, ◌++◌, Option, None, Some}
 use Rattle.std.specs.Option.{option_map}
 use Rattle.tx_model.specs.declared.reply.Status.{Status}
 use Rattle.tx_model.specs.declared.reply.Status.TheVariants as status
@@ -31,29 +31,40 @@ outcome_of (Gave value w) = outcome_by status.Done w.output
 outcome_of (Failed f) = outcome_by status.Fail (with_log (error_lines f.newline_char f.error f.line) f.output)
 outcome_of (Spent output) = outcome_by status.Spent output
 
--- the world in which a region begins
-abbrev pub started : Map → List ℕ → ℕ → World
-started map text budget = record {
+-- The state of a session: what everything means, the names that the format has, and those beside them.
+pub record State : Type 0 where
+  pub map : Map
+  pub frozen : List ℕ → Bool
+  pub names : List (List ℕ)
+
+-- the world in which a region begins, or a preamble
+abbrev pub started : State → Bool → List ℕ → ℕ → World
+started s preamble text budget = record {
   pending = Text (opened text) ∷ [];
-  environment = record { groups = []; outside = map };
+  environment = record { groups = []; outside = s.map };
   budget = budget;
   kept = None;
+  preamble = preamble;
+  depth = 0;
+  stored = 0;
+  frozen = s.frozen;
+  names = s.names;
   output = record { steps = 0; pages = 0; dvi = []; log = [] };
 }
 
 -- the outcome, if it takes at most so many moves
-unfoldable pub outcome_in : ℕ → Map → List ℕ → ℕ → Option Outcome
-outcome_in moves map text budget = option_map outcome_of (reads moves Control [] (started map text budget))
+unfoldable pub outcome_in : ℕ → State → Bool → List ℕ → ℕ → Option Outcome
+outcome_in moves s preamble text budget = option_map outcome_of (reads moves Control [] (started s preamble text budget))
 
 -- the state that is left: a region that fails or is spent gives back the one from before it
-abbrev pub left_by : Map → Result → Map
-left_by map (Gave value w) = w.environment.outside
-left_by map (Failed f) = map
-left_by map (Spent output) = map
+abbrev pub left_by : State → Result → State
+left_by s (Gave value w) = record s { map = w.environment.outside; names = w.names }
+left_by s (Failed f) = s
+left_by s (Spent output) = s
 
--- from the state that this map gives, the text with this budget comes to this outcome and leaves this state
-pub record Region (map : Map) (text : List ℕ) (budget : ℕ) (outcome : Outcome) (after : Map) : Type 0 where
+-- From this state the text with this budget, as a preamble or not, comes to this outcome and leaves this state.
+pub record Region (s : State) (preamble : Bool) (text : List ℕ) (budget : ℕ) (outcome : Outcome) (after : State) : Type 0 where
   pub result : Result
-  pub run : Reads Control [] (started map text budget) result
+  pub run : Reads Control [] (started s preamble text budget) result
   pub is : outcome_of result ≡ outcome
-  pub leaves : left_by map result ≡ after
+  pub leaves : left_by s result ≡ after

@@ -1,11 +1,10 @@
 //! What holds of the definitions themselves.
 
-ghost use Rattle.std.specs.Prelude.{◌≡◌, ℕ, List};
-ghost use Rattle.tx_private.specs.Meanings.{Map};
+ghost use Rattle.std.specs.Prelude.{◌≡◌, ℕ, Bool, List};
 ghost use Rattle.tx_private.specs.Readings.{Kind, Item};
 ghost use Rattle.tx_private.specs.World.{World};
 ghost use Rattle.tx_private.specs.Reads.{Result, Reads};
-ghost use Rattle.tx_private.specs.Region.{Outcome, Region};
+ghost use Rattle.tx_private.specs.Region.{Outcome, State, Region};
 
 /// A reading ends in one way at the most.
 pub fn one_end()
@@ -14,5 +13,5 @@ pub fn one_end()
 
 /// A region has one outcome at the most, and leaves one state.
 pub fn one_outcome()
-    ensures { (map : Map) (text : List ℕ) (budget : ℕ) (o p : Outcome) (a b : Map) → Region map text budget o a → Region map text budget p b → (o ≡ p) × (a ≡ b) }
+    ensures { (s : State) (preamble : Bool) (text : List ℕ) (budget : ℕ) (o p : Outcome) (a b : State) → Region s preamble text budget o a → Region s preamble text budget p b → (o ≡ p) × (a ≡ b) }
 {}

@@ -1,8 +1,8 @@
 //! Worked regions, computed from the definitions to the bytes of the reply.
 
 ghost use lib.Chars.{codes};
-ghost use Rattle.std.specs.Prelude.{◌++◌, ◌∷◌, [], replicate};
-ghost use Rattle.tx_private.specs.Row.{Comes, ComesIn};
+ghost use Rattle.std.specs.Prelude.{◌++◌, ◌∷◌, []};
+ghost use Rattle.tx_private.specs.Row.{Comes, ComesIn, repeated};
 
 /// Registers: a list keeps its tokens, and a name may stand for a register.
 pub fn registers()
@@ -39,8 +39,8 @@ pub fn groups()
     ensures global { Comes (codes "{" ++ 92 ∷ codes "global" ++ 92 ∷ codes "def" ++ 92 ∷ codes "a{x}" ++ 92 ∷ codes "def" ++ 92 ∷ codes "a{y}}" ++ 92 ∷ codes "message{" ++ 92 ∷ codes "a}") (codes "DONE 19 0 0 2" ++ 10 ∷ codes "x" ++ 10 ∷ []) }
     ensures after { Comes (92 ∷ codes "begingroup" ++ 92 ∷ codes "aftergroup" ++ 92 ∷ codes "relax" ++ 92 ∷ codes "endgroup") (codes "DONE 5 0 0 0" ++ 10 ∷ []) }
     ensures mixed { Comes (codes "{" ++ 92 ∷ codes "endgroup") (codes "FAIL 2 0 0 26" ++ 10 ∷ codes "! Missing } inserted." ++ 10 ∷ codes "l.1" ++ 10 ∷ []) }
-    ensures most { ComesIn 1100 (replicate 254 123 ++ replicate 254 125) (codes "DONE 509 0 0 0" ++ 10 ∷ []) }
-    ensures too_many { ComesIn 600 (replicate 255 123) (codes "FAIL 255 0 0 58" ++ 10 ∷ codes "! TeX capacity exceeded, sorry [grouping levels=255]." ++ 10 ∷ codes "l.1" ++ 10 ∷ []) }
+    ensures most { ComesIn 1100 (repeated 254 (codes "{") ++ repeated 254 (codes "}")) (codes "DONE 509 0 0 0" ++ 10 ∷ []) }
+    ensures too_many { ComesIn 600 (repeated 255 (codes "{")) (codes "FAIL 255 0 0 58" ++ 10 ∷ codes "! TeX capacity exceeded, sorry [grouping levels=255]." ++ 10 ∷ codes "l.1" ++ 10 ∷ []) }
 {}
 
 /// Commands, and parameters that change how lines and logs are made.
@@ -57,4 +57,12 @@ pub fn commands()
     ensures letter { Comes (92 ∷ codes "message{" ++ 92 ∷ codes "meaning A}") (codes "DONE 18 0 0 13" ++ 10 ∷ codes "the letter A" ++ 10 ∷ []) }
     ensures numeral { Comes (92 ∷ codes "message{" ++ 92 ∷ codes "romannumeral 1994 }") (codes "DONE 17 0 0 8" ++ 10 ∷ codes "mcmxciv" ++ 10 ∷ []) }
     ensures job { Comes (92 ∷ codes "message{" ++ 92 ∷ codes "jobname}") (codes "DONE 9 0 0 5" ++ 10 ∷ codes "texd" ++ 10 ∷ []) }
+    ensures hanging { Comes (92 ∷ codes "hangindent=1pt " ++ 92 ∷ codes "par" ++ 92 ∷ codes "message{" ++ 92 ∷ codes "the" ++ 92 ∷ codes "hangindent}") (codes "DONE 13 0 0 6" ++ 10 ∷ codes "0.0pt" ++ 10 ∷ []) }
+    ensures end_in_group { Comes (codes "{" ++ 10 ∷ 92 ∷ codes "end") (codes "FAIL 3 0 0 46" ++ 10 ∷ codes "! Region ended inside a group at level 1." ++ 10 ∷ codes "l.2" ++ 10 ∷ []) }
+{}
+
+/// Limits, of which each is told at the token that passes it.
+pub fn limits()
+    ensures readings { ComesIn 2100 (repeated 501 (92 ∷ codes "number") ++ codes "1") (codes "FAIL 501 0 0 63" ++ 10 ∷ codes "! TeX capacity exceeded, sorry [parameter stack size=500]." ++ 10 ∷ codes "l.1" ++ 10 ∷ []) }
+    ensures name { Comes (92 ∷ repeated 1025 (codes "a")) (codes "FAIL 1 0 0 55" ++ 10 ∷ codes "! TeX capacity exceeded, sorry [buffer size=1024]." ++ 10 ∷ codes "l.1" ++ 10 ∷ []) }
 {}

@@ -6,6 +6,6 @@ use Rattle.tx_private.proofs.Fuel.{reads-once}
 use Rattle.tx_private.proofs.laws.one_outcome.Goals as goal
 
 pub returns : goal.returns
-returns c map text budget o p a b x y =
-    let same : x.result ≡ y.result = reads-once Control [] (started map text budget) x.result y.result x.run y.run in
-    (sym x.is ∙ ap outcome_of same ∙ y.is, sym x.leaves ∙ ap (left_by map) same ∙ y.leaves)
+returns c s preamble text budget o p a b x y =
+    let same : x.result ≡ y.result = reads-once Control [] (started s preamble text budget) x.result y.result x.run y.run in
+    (sym x.is ∙ ap outcome_of same ∙ y.is, sym x.leaves ∙ ap (left_by s) same ∙ y.leaves)

@@ -58,3 +58,11 @@ returns-clause-numeral c = refl
 pub returns-clause-job : goal.returns-clause-job
 unfolding scanned next move_in reads outcome_in digits decimals_below primitive_named text_of_error name_of_primitive
 returns-clause-job c = refl
+
+pub returns-clause-hanging : goal.returns-clause-hanging
+unfolding scanned next move_in reads outcome_in digits decimals_below primitive_named text_of_error
+returns-clause-hanging c = refl
+
+pub returns-clause-end_in_group : goal.returns-clause-end_in_group
+unfolding scanned next move_in reads outcome_in digits decimals_below primitive_named text_of_error
+returns-clause-end_in_group c = refl
