@@ -16,7 +16,7 @@ use Rattle.tx_private.specs.Meanings.{Register, Count, Dimen, Skip, MuSkip, Toks
 use Rattle.tx_private.specs.Meanings as meaning
 use Rattle.tx_private.specs.Environment.{assigning, parameter_of, present}
 use Rattle.tx_private.specs.World.{World, Command, put_in_front, with_environment}
-use Rattle.tx_private.specs.Readings.{Kind, Expanded, Balanced, ExpandedBalanced, OptionalEquals, Number, DimensionOf, GlueOf, Keyword, ListValue, Value, Unexpandable, Tokens, Amount, Word, Nothing, Item, Tok, End, Given, Move, Take, Sub, Again, Done, Bad}
+use Rattle.tx_private.specs.Readings.{Kind, Expanded, Body, ExpandedBody, OptionalEquals, Number, DimensionOf, GlueOf, Keyword, ListValue, Value, Unexpandable, Tokens, Amount, Word, Nothing, Item, Tok, End, Given, Move, Take, Sub, Again, Done, Bad}
 use Rattle.tx_private.specs.Quantities.{is_math_parameter, quantity_at, in_byte, byte_first, register_of, codes_of}
 use Rattle.tx_private.specs.Lists.{is_space, is_equals, storing}
 
@@ -120,8 +120,8 @@ named further _ w = Bad (plain 24) w
 
 -- the body of a definition, expanded or as it stands
 abbrev pub body_kind : Bool → Kind
-body_kind true = ExpandedBalanced
-body_kind false = Balanced
+body_kind true = ExpandedBody
+body_kind false = Body
 
 -- a definition without parameters: its left brace stands directly behind the name
 abbrev pub defined : Prefixes → Bool → Address → List Item → World → Move

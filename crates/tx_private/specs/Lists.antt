@@ -1,5 +1,5 @@
 -- Balanced texts, braces and values of lists. *TeX: The Program*, part 26 and 27.
-use Rattle.std.specs.Prelude.{ℕ, zero, suc, pos, ◌+◌, ◌==◌, nat_lt, Bool, true, false, List, [], ◌∷◌, ◌++◌, length, Option, Some, None, if◌then◌else◌}
+use Rattle.std.specs.Prelude.{ℕ, zero, suc, pos, ◌+◌, ◌==◌, ◌&&◌, nat_lt, Bool, true, false, List, [], ◌∷◌, ◌++◌, length, Option, Some, None, if◌then◌else◌}
 use Rattle.tx_model.specs.declared.category.Cat.TheVariants as cat
 use Rattle.tx_model.specs.Tokens.{Token, Char, is_left_brace, is_right_brace}
 use Rattle.tx_prims.specs.declared.primitives.Primitive.TheVariants as primitive
@@ -42,17 +42,26 @@ adding groups tokens t w further =
     else if is_right_brace t then closed_in groups tokens t w further
     else further groups (tokens ++ t ∷ [])
 
--- One item more: a token, or a list that is added as it stands. The end of the text is not lawful in it.
-abbrev pub with_item : ℕ → List Token → Item → World → (ℕ → List Token → Move) → Move
-with_item groups tokens (Tok c) w further = adding groups tokens c.token w further
-with_item groups tokens (Given (Unexpandable c)) w further = adding groups tokens c.token w further
-with_item groups tokens (Given (Tokens more)) w further = further groups (tokens ++ more)
-with_item groups tokens _ w further = Bad (plain 63) w
+abbrev pub is_parameter_token : Token → Bool
+is_parameter_token (Char cat.Parameter b) = true
+is_parameter_token _ = false
 
--- a balanced text of which these tokens were taken, each further one by this wish
-abbrev pub balanced : (World → Move) → ℕ → List Token → List Item → World → Move
-balanced wish groups tokens [] w = wish w
-balanced wish groups tokens (item ∷ items) w = with_item groups tokens item w (bounded w (λ n more. balanced wish n more items w))
+-- a token that is taken; in a body a parameter character isn't built yet
+abbrev pub taking_in : Bool → ℕ → List Token → Token → World → (ℕ → List Token → Move) → Move
+taking_in body groups tokens t w further =
+    if body && is_parameter_token t then Bad (plain 63) w else adding groups tokens t w further
+
+-- One item more: a token, or a list that is added as it stands. The end of the text is not lawful in it.
+abbrev pub with_item : Bool → ℕ → List Token → Item → World → (ℕ → List Token → Move) → Move
+with_item body groups tokens (Tok c) w further = taking_in body groups tokens c.token w further
+with_item body groups tokens (Given (Unexpandable c)) w further = taking_in body groups tokens c.token w further
+with_item body groups tokens (Given (Tokens more)) w further = further groups (tokens ++ more)
+with_item body groups tokens _ w further = Bad (plain 63) w
+
+-- a balanced text, which is a body or not, of which these tokens were taken, each further one by this wish
+abbrev pub balanced : Bool → (World → Move) → ℕ → List Token → List Item → World → Move
+balanced body wish groups tokens [] w = wish w
+balanced body wish groups tokens (item ∷ items) w = with_item body groups tokens item w (bounded w (λ n more. balanced body wish n more items w))
 
 -- spaces and \relax are skipped before a left brace
 abbrev pub is_skipped : Meaning → Bool

@@ -7,7 +7,7 @@ use Rattle.tx_quant.specs.Dimensions.{dimension_value}
 use Rattle.tx_quant.specs.Glues.{glue_value}
 use Rattle.tx_quant.specs.Keywords.{keyword}
 use Rattle.tx_private.specs.World.{World}
-use Rattle.tx_private.specs.Readings.{Kind, Control, Expanded, ExpandedInText, Balanced, ExpandedBalanced, LeftBrace, OptionalEquals, Number, DimensionOf, GlueOf, Keyword, QuantityFrom, ListValue, Value, Amount, Word, Item, Move, Take, Sub}
+use Rattle.tx_private.specs.Readings.{Kind, Control, Expanded, ExpandedInText, Balanced, ExpandedBalanced, Body, ExpandedBody, LeftBrace, OptionalEquals, Number, DimensionOf, GlueOf, Keyword, QuantityFrom, ListValue, Value, Amount, Word, Item, Move, Take, Sub}
 use Rattle.tx_private.specs.Scans.{scan}
 use Rattle.tx_private.specs.Quantities.{begins_quantity, quantity_from}
 use Rattle.tx_private.specs.Expansions.{expanded}
@@ -33,8 +33,10 @@ unfoldable pub move_in : Kind → List Item → World → Move
 move_in Control items w = control items w
 move_in Expanded items w = expanded false items w
 move_in ExpandedInText items w = expanded true items w
-move_in Balanced items w = balanced Take zero [] items w
-move_in ExpandedBalanced items w = balanced (Sub ExpandedInText) zero [] items w
+move_in Balanced items w = balanced false Take zero [] items w
+move_in ExpandedBalanced items w = balanced false (Sub ExpandedInText) zero [] items w
+move_in Body items w = balanced true Take zero [] items w
+move_in ExpandedBody items w = balanced true (Sub ExpandedInText) zero [] items w
 move_in LeftBrace items w = left_brace items w
 move_in OptionalEquals items w = optional_equals items w
 move_in Number items w = scan begins_quantity number (λ v. Amount (quant.Int v)) items w

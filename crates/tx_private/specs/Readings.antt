@@ -17,6 +17,9 @@ pub data Kind : Type 0 where
   Balanced : Kind
   -- and the tokens to which they expand
   ExpandedBalanced : Kind
+  -- the same for the body of a definition, in which a parameter character is not lawful yet
+  Body : Kind
+  ExpandedBody : Kind
   -- a left brace behind spaces and \relax
   LeftBrace : Kind
   -- an equals sign, or nothing
