@@ -1,1 +1,3 @@
 pub mod Fuel
+pub mod Steps
+pub mod Opens

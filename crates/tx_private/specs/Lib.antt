@@ -17,4 +17,5 @@ pub mod Controls
 pub mod Moves
 pub mod Reads
 pub mod Region
+pub mod Opens
 pub mod Row
