@@ -1,0 +1,3 @@
+mod FillLemmas
+pub mod PresetLemmas
+mod TableLemmas
