@@ -9,3 +9,6 @@ mod store;
 pub use plain::PlainStore;
 pub use slots::Slot;
 pub use store::Store;
+
+#[cfg(test)]
+mod tests;
