@@ -1,7 +1,7 @@
 -- Main control. *TeX: The Program*, part 46 and 49.
 use Rattle.std.specs.Prelude.{ℕ, zero, suc, ℤ, pos, nat_lt, ◌==◌, Bool, true, false, ◌||◌, List, [], ◌∷◌, ◌++◌, length, map, Option, Some, None, if◌then◌else◌}
 use Rattle.tx_model.specs.declared.category.Cat.TheVariants as cat
-use Rattle.tx_model.specs.Tokens.{Token, Char}
+use Rattle.tx_model.specs.Tokens.{Token, Char, Active}
 use Rattle.tx_model.specs.Pending.{Member, Single, Text}
 use Rattle.tx_model.specs.Shown.{shown_in_list}
 use Rattle.std.specs.List.{flat_map}
@@ -81,13 +81,18 @@ message further (Given Nothing ∷ []) w = Sub ExpandedBalanced w
 message further (Given Nothing ∷ Given (Tokens tokens) ∷ items) w = further tokens
 message further _ w = Bad (plain 63) w
 
--- a character whose code in a table is not 0 has that code in its place
-abbrev pub recoded : CodeTable → World → Token → Token
-recoded table w (Char c b) = by_code (integer_in (present w.environment (OfCode table b)))
+-- the code of a byte in a table, where it is not 0, and else the byte
+abbrev pub byte_for : CodeTable → World → ℕ → ℕ
+byte_for table w b = by_code (integer_in (present w.environment (OfCode table b)))
   where
-    by_code : ℤ → Token
-    by_code (pos (suc n)) = Char c (suc n)
-    by_code _ = Char c b
+    by_code : ℤ → ℕ
+    by_code (pos (suc n)) = suc n
+    by_code _ = b
+
+-- a character, active or not, has the code of its byte in its place, and keeps its category
+abbrev pub recoded : CodeTable → World → Token → Token
+recoded table w (Char c b) = Char c (byte_for table w b)
+recoded table w (Active b) = Active (byte_for table w b)
 recoded table w t = t
 
 -- \lowercase and \uppercase

@@ -50,6 +50,7 @@ pub fn commands()
     ensures new_lines { Comes (92 ∷ codes "newlinechar=101 " ++ 92 ∷ codes "zz") (codes "FAIL 7 0 0 34" ++ 10 ∷ codes "! Und" ++ 10 ∷ codes "fin" ++ 10 ∷ codes "d control s" ++ 10 ∷ codes "qu" ++ 10 ∷ codes "nc" ++ 10 ∷ codes "." ++ 10 ∷ codes "l.1" ++ 10 ∷ []) }
     ensures line_ends { Comes (92 ∷ codes "endlinechar=-1 " ++ 92 ∷ codes "relax" ++ 10 ∷ 92 ∷ []) (codes "FAIL 7 0 0 34" ++ 10 ∷ codes "! Undefined control sequence." ++ 10 ∷ codes "l.2" ++ 10 ∷ []) }
     ensures upper_case { Comes (92 ∷ codes "uppercase{" ++ 92 ∷ codes "message{ab}}") (codes "DONE 14 0 0 3" ++ 10 ∷ codes "AB" ++ 10 ∷ []) }
+    ensures active_character { Comes (92 ∷ codes "catcode122=13 " ++ 92 ∷ codes "def z{}" ++ 92 ∷ codes "uppercase{z}") (codes "FAIL 18 0 0 34" ++ 10 ∷ codes "! Undefined control sequence." ++ 10 ∷ codes "l.1" ++ 10 ∷ []) }
     ensures escape_character { Comes (92 ∷ codes "escapechar=33 " ++ 92 ∷ codes "the" ++ 92 ∷ codes "relax") (codes "FAIL 7 0 0 41" ++ 10 ∷ codes "! You can't use `!relax' after " ++ 92 ∷ codes "the." ++ 10 ∷ codes "l.1" ++ 10 ∷ []) }
     ensures no_register { Comes (92 ∷ codes "advance" ++ 92 ∷ codes "relax") (codes "FAIL 2 0 0 47" ++ 10 ∷ codes "! You can't use `" ++ 92 ∷ codes "relax' in vertical mode." ++ 10 ∷ codes "l.1" ++ 10 ∷ []) }
     ensures long_register { Comes (92 ∷ codes "long" ++ 92 ∷ codes "count0=1") (codes "FAIL 2 0 0 44" ++ 10 ∷ codes "! You can't use a prefix with `" ++ 92 ∷ codes "count'." ++ 10 ∷ codes "l.1" ++ 10 ∷ []) }

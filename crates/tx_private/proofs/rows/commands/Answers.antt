@@ -31,6 +31,10 @@ pub returns-clause-upper_case : goal.returns-clause-upper_case
 unfolding scanned next move_in reads outcome_in digits decimals_below primitive_named text_of_error
 returns-clause-upper_case c = refl
 
+pub returns-clause-active_character : goal.returns-clause-active_character
+unfolding scanned next move_in reads outcome_in digits decimals_below primitive_named text_of_error
+returns-clause-active_character c = refl
+
 pub returns-clause-escape_character : goal.returns-clause-escape_character
 unfolding scanned next move_in reads outcome_in digits decimals_below primitive_named text_of_error name_of_primitive
 returns-clause-escape_character c = refl
