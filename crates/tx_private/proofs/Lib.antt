@@ -1,3 +1,1 @@
 pub mod Fuel
-pub mod Steps
-pub mod Opens

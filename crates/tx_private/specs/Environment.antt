@@ -1,6 +1,7 @@
 -- The environment: one map per open level. The TeXbook, chapter 24.
-use Rattle.std.specs.Prelude.{ℕ, ℤ, pos, ◌+◌, Bool, List, [], ◌∷◌, ◌++◌, length, map, Option, Some, None, if◌then◌else◌}
+use Rattle.std.specs.Prelude.{ℕ, ℤ, pos, ◌+◌, nat_lt, Bool, List, [], ◌∷◌, ◌++◌, length, map, Option, Some, None, if◌then◌else◌}
 use Rattle.tx_model.specs.declared.category.Cat.{Cat}
+use Rattle.tx_model.specs.declared.category.Cat.TheVariants as cat
 use Rattle.tx_model.specs.Tokens.{Token, Char, Name, Active, Param, Stop}
 use Rattle.tx_prims.specs.declared.primitives.IntegerParameter.{IntegerParameter}
 use Rattle.tx_save.specs.declared.group.GroupKind.{GroupKind}
@@ -55,7 +56,7 @@ parameter_of e p = integer_in (present e (OfInteger p))
 
 -- the present category of a byte
 abbrev pub category_of : Environment → ℕ → Cat
-category_of e b = category_numbered (integer_in (present e (OfCode CatCodes b)))
+category_of e b = if nat_lt b 256 then category_numbered (integer_in (present e (OfCode CatCodes b))) else cat.Other
 
 -- the present meaning of a token
 abbrev pub meaning_of : Environment → Token → Meaning

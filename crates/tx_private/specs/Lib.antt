@@ -17,5 +17,4 @@ pub mod Controls
 pub mod Moves
 pub mod Reads
 pub mod Region
-pub mod Opens
 pub mod Row
