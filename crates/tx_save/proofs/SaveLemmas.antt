@@ -13,7 +13,8 @@ use Rattle.std.proofs.lemmas.Bool.{eqb-true}
 use Rattle.tx_save.specs.declared.group.Group.{Group}
 use Rattle.tx_save.specs.declared.save.Save.{Save}
 use Rattle.tx_save.specs.declared.save.Save.TheVariants as save
-use Rattle.tx_save.specs.Saves.{below, FitsAll, IsLeveled}
+use Rattle.std.specs.List.{slice_get}
+use Rattle.tx_save.specs.Saves.{below, groups_of, FitsAll, IsLeveled}
 use Rattle.tx_save.proofs.UpdateLemmas.{by_answer, match_cases, match_true, match_false, update-same, update-other, update-twice, update-self, update-comm}
 
 pub eqb-no : (n : ℕ) → n ≢ 1 → (n == 1) ≡ false
@@ -157,3 +158,17 @@ module _ {B : Type 0} where
   fits-outermost d says level (save.Mark outer ∷ s) h e = absurd (omega (arith, h.0, e))
   fits-outermost d says level (save.Saved a was outer ∷ s) h e =
       match_cases (level a == 1) (λ z p. match_true _ _ _ z (fits-outermost d says level s p e)) (λ z p. absurd (true≢false (sym (ap (λ n. n == 1) (p.0 ∙ e)) ∙ z))) h
+
+  -- no group is open at level 1
+  pub groups-outermost : (d : ℕ) (level : Addr → ℕ) (group : Group) (s : List (Save B)) → IsLeveled d level s → d ≡ 1 → groups_of group s ≡ []
+  groups-outermost d level group [] h e = refl
+  groups-outermost d level group (save.Mark outer ∷ s) h e = absurd (omega (arith, h.0, e))
+  groups-outermost d level group (save.Saved a was outer ∷ s) h e =
+      match_cases (level a == 1) (λ z p. groups-outermost d level group s p e) (λ z p. groups-outermost d (update level a outer) group s p.1 e) h
+
+  -- above it the innermost one is the group that is filled now
+  pub groups-innermost : (d : ℕ) (level : Addr → ℕ) (group : Group) (s : List (Save B)) → IsLeveled d level s → d ≢ 1 → slice_get (groups_of group s) 0 ≡ Some group
+  groups-innermost d level group [] h ne = absurd (ne h.0)
+  groups-innermost d level group (save.Mark outer ∷ s) h ne = refl
+  groups-innermost d level group (save.Saved a was outer ∷ s) h ne =
+      match_cases (level a == 1) (λ z p. groups-innermost d level group s p ne) (λ z p. groups-innermost d (update level a outer) group s p.1 ne) h

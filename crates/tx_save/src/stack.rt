@@ -1,7 +1,8 @@
 //! The save stack.
 
 ghost use Rattle.std.specs.Prelude.{◌≡◌, ◌≢◌, ◌+◌, ◌<◌, ◌∷◌, ◌++◌, [], ◌↔◌, false, true, if◌then◌else◌, map, reverse, Err, IfOk, IfErr, IfNone, IfSome, OnOk, OnErr, length, vec_capacity, IsTrue, ⊤};
-ghost use Rattle.std.specs.Option.{option_to_list};
+ghost use Rattle.std.specs.List.{slice_get};
+ghost use Rattle.std.specs.Option.{option_map, option_to_list};
 ghost use Rattle.tx_eqtb.specs.Addresses.{update};
 ghost use Rattle.tx_eqtb.specs.Meanings.{Map};
 ghost use Rattle.tx_eqtb.specs.Tables.{Table, noted, now, before, held, SameCounts};
@@ -68,6 +69,16 @@ impl<B> SaveStack<B> {
         ensures alone { self.now.level ≡ 1 → (frozen : Map B) (table : Table B) → outside frozen table self.now ≡ [] }
     {
         self.level
+    }
+
+    /// The kind of the innermost open group. None comes exactly where no group is open.
+    pub fn innermost(&self) -> Option<GroupKind>
+        ensures { result ≡ option_map (λ group. group.kind) (slice_get (groups self.now) 0) }
+    {
+        if self.level == 1 {
+            return None;
+        }
+        Some(self.group.kind)
     }
 
     /// Begins a group. The errors are that the level is 255 already, and want of memory. They change
