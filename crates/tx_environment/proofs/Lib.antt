@@ -1,0 +1,4 @@
+pub mod PlaceLemmas
+pub mod LevelLemmas
+pub mod CategoryLemmas
+pub mod StepLemmas

@@ -1,0 +1,20 @@
+use Rattle.std.proofs.Common.{ap, sym, ◌∙◌}
+use Rattle.tx_eqtb.specs.Meanings.{meanings}
+use Rattle.tx_eqtb.specs.Tables.{now, before}
+use Rattle.tx_save.specs.Saves.{groups, outside}
+use Rattle.tx_views.specs.Places.{address_in}
+use Rattle.tx_views.specs.Meanings.{meaning_in}
+use Rattle.tx_environment.proofs.PlaceLemmas.{present-at}
+use Rattle.tx_environment.proofs.LevelLemmas.{present-is}
+use Rattle.tx_environment.proofs.environment.Environment.meaning.Goals as goal
+
+pub returns : goal.returns
+returns c view is =
+    let over = c.self.inside.over in
+    let save = c.self.inside.save in
+    let frozen = meanings c.args.frozen.now in
+    rw (← c.self.view_is) (
+    ap (meaning_in view) (c.get.ensures ∙ ap (now frozen over) c.addr.ensures)
+    ∙ sym (present-at view is (now frozen over) c.args.place)
+    ∙ ap (λ f. f (address_in view c.args.place)) (sym (present-is view (now frozen over) (outside frozen over save) (groups save)))
+    )

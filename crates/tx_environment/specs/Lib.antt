@@ -1,0 +1,4 @@
+pub mod States
+pub mod Soundness
+pub mod Changes
+pub mod Steps
