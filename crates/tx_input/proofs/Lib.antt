@@ -1,0 +1,4 @@
+pub mod UnreadLemmas
+pub mod OwnedLemmas
+pub mod TakingLemmas
+pub mod NameLemmas
