@@ -1,0 +1,5 @@
+pub mod StepLemmas
+pub mod BackLemmas
+pub mod NameLemmas
+pub mod TellLemmas
+pub mod MakerLemmas

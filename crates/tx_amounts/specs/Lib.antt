@@ -1,0 +1,4 @@
+pub mod Automata
+pub mod Backs
+pub mod Scanning
+pub mod Names
