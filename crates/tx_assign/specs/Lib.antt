@@ -1,0 +1,5 @@
+pub mod Refusals
+pub mod Values
+pub mod Operations
+pub mod Assigned
+pub mod Changes
