@@ -36,6 +36,11 @@ abbrev pub says : View → Scan → List Item → World → Move
 says view scan items w =
     scan_from (begins scan.automaton) (reading scan.automaton) amount_in [] (taken_in view scan.taken.items) (option_map (command_in view) scan.begun) items w
 
+-- the token, with its meaning, with which a quantity began
+abbrev pub started : Option Begun → Option (Tok × Sense)
+started None = None
+started (Some begun) = Some (begun.token, begun.sense)
+
 -- a quantity comes first, where one has begun
 abbrev pub wish_behind : Option Begun → ScanWish → ScanWish
 wish_behind None how = how

@@ -35,7 +35,7 @@ impl Scan {
     ghost use Rattle.tx_private.specs.Readings.{Item, Number, DimensionOf, GlueOf, Keyword as KeywordOf, QuantityFrom, Given, TextEnd, Sub};
     ghost use Rattle.tx_private.specs.Meanings.{Meaning};
     ghost use Rattle.tx_private.specs.Moves.{move_in};
-    ghost use Rattle.tx_amounts.specs.Scanning.{says, wish_of, wish_move, WishesFor, Tells, command_of, token_item, quantity_item, plain_item, letter_in};
+    ghost use Rattle.tx_amounts.specs.Scanning.{says, started, wish_of, wish_move, WishesFor, Tells, command_of, token_item, quantity_item, plain_item, letter_in};
     ghost use Rattle.tx_amounts.specs.Names.{IsWithin, scan_tokens, tokens_back};
 
     /// A number of which nothing was taken (*TeX: The Program*, section 440). Its value is an integer below 2^31 in
@@ -118,6 +118,7 @@ impl Scan {
     /// The token, with its meaning, with which the quantity begins that is wished for. None comes exactly where
     /// `wish` is not `Quantity`.
     pub fn command(&self) -> Option<(Tok, Sense)>
+        ensures begun { result ≡ started self.now.begun }
         ensures command { IfSome result (λ c. (view : View) (w : World) → wish_move view self.now w ≡ Sub (QuantityFrom (command_of view c.0 c.1)) w) }
         ensures there { IsSome result ↔ (wish_of self.now ≡ ScanWish.Quantity) }
         ensures names { IfSome result (λ c. IsWithin (c.0 ∷ []) (scan_tokens self.now)) }
