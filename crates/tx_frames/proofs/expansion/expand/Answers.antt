@@ -1,0 +1,11 @@
+use Rattle.std.proofs.Common.{◌≡◌, ◌∷◌, [], ◌++◌, ◌+◌, cond, true, false, refl, sym, ◌∙◌, ap, subst}
+use Rattle.tx_private.specs.Expansions.{expansion}
+use Rattle.tx_views.specs.Meanings.{sense_in}
+use Rattle.tx_frames.specs.Values.{command_in}
+use Rattle.tx_frames.specs.Answers.{Becomes}
+use Rattle.tx_frames.specs.Opened.{expanding}
+use Rattle.tx_frames.proofs.expansion.expand.Goals as goal
+
+pub returns-in-Primitive : goal.returns-in-Primitive
+returns-in-Primitive c view w =
+    subst (λ s. Becomes view (expanding view c.args.text c.args.token s) (expansion c.args.text (command_in view c.args.token s) (sense_in view s) [] w) w c.expand_any.result) (sym c.in-Primitive.is) (c.expand_any.ensures view w)

@@ -1,0 +1,12 @@
+use Rattle.std.proofs.Common.{◌≡◌, ◌∷◌, [], ◌++◌, ◌+◌, ◌-◌, suc, arith, cond, true, false, refl, sym, ◌∙◌, ap, subst}
+use Rattle.tx_private.specs.Expansions.{expansion}
+use Rattle.tx_views.specs.declared.sense.Sense.TheVariants as sense
+use Rattle.tx_views.specs.Meanings.{sense_in}
+use Rattle.tx_frames.specs.Values.{command_in}
+use Rattle.tx_frames.specs.Answers.{Becomes}
+use Rattle.tx_frames.specs.Opened.{expanding}
+use Rattle.tx_frames.proofs.expansion.expand_any.Goals as goal
+
+pub returns-in-Expandable : goal.returns-in-Expandable
+returns-in-Expandable c view w =
+    subst (λ p. Becomes view (expanding view c.args.text c.args.token (sense.Primitive p)) (expansion c.args.text (command_in view c.args.token (sense.Primitive p)) (sense_in view (sense.Primitive p)) [] w) w c.expand_primitive.result) (sym c.in-Expandable.is) (c.expand_primitive.ensures view w)

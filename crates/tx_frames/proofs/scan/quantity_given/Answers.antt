@@ -1,0 +1,14 @@
+use Rattle.std.proofs.Common.{◌∷◌, [], ◌++◌, refl, sym, ◌∙◌, ap, subst}
+use Rattle.tx_private.specs.Readings as private
+use Rattle.tx_views.specs.Views.{View}
+use Rattle.tx_frames.specs.declared.frame.Frame.TheVariants as frame
+use Rattle.tx_frames.specs.declared.frame.ListStage.TheVariants as list
+use Rattle.tx_frames.specs.declared.frame.Stage.TheVariants as stage
+use Rattle.tx_frames.specs.declared.value.Item.TheVariants as item
+use Rattle.tx_frames.specs.declared.value.Value.TheVariants as value
+use Rattle.tx_frames.specs.Answers.{Becomes, BecomesGiven, BecomesBegun}
+use Rattle.tx_frames.proofs.scan.quantity_given.Goals as goal
+
+pub returns-in-Amount : goal.returns-in-Amount
+returns-in-Amount c view w =
+    subst (λ v. BecomesGiven view (frame.Scan c.args.reading c.args.scan) (item.Given v) w c.with_quantity.result) (sym c.in-Amount.is) (c.with_quantity.ensures view w)

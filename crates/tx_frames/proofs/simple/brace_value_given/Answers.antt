@@ -1,0 +1,14 @@
+use Rattle.std.proofs.Common.{◌∷◌, [], ◌++◌, refl, sym, ◌∙◌, ap, subst}
+use Rattle.tx_private.specs.Readings as private
+use Rattle.tx_views.specs.Views.{View}
+use Rattle.tx_frames.specs.declared.frame.Frame.TheVariants as frame
+use Rattle.tx_frames.specs.declared.frame.ListStage.TheVariants as list
+use Rattle.tx_frames.specs.declared.frame.Stage.TheVariants as stage
+use Rattle.tx_frames.specs.declared.value.Item.TheVariants as item
+use Rattle.tx_frames.specs.declared.value.Value.TheVariants as value
+use Rattle.tx_frames.specs.Answers.{Becomes, BecomesGiven, BecomesBegun}
+use Rattle.tx_frames.proofs.simple.brace_value_given.Goals as goal
+
+pub returns-in-Command : goal.returns-in-Command
+returns-in-Command c view w =
+    subst (λ v. BecomesGiven view frame.LeftBrace (item.Given v) w c.brace.result) (sym c.in-Command.is) (c.brace.ensures view w)
