@@ -1,0 +1,4 @@
+use Rattle.tx_commands.proofs.begin.begin_given.Goals as goal
+
+pub returns-in-Expanded : goal.returns-in-Expanded
+returns-in-Expanded c = rw c.in-Expanded.is c.begin.ensures

@@ -1,0 +1,4 @@
+use Rattle.tx_commands.proofs.numbered.numbered.Goals as goal
+
+pub returns-in-Amount : goal.returns-in-Amount
+returns-in-Amount c = rw c.in-Amount.is c.number.ensures

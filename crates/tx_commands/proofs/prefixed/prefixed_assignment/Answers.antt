@@ -1,0 +1,4 @@
+use Rattle.tx_commands.proofs.prefixed.prefixed_assignment.Goals as goal
+
+pub returns-in-None : goal.returns-in-None
+returns-in-None c = rw (← c.in-None.ensures) c.flagged_assignment.ensures

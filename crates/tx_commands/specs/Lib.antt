@@ -1,0 +1,5 @@
+pub mod Items
+pub mod Wishes
+pub mod Commands
+pub mod Outcomes
+pub mod Stages
