@@ -28,7 +28,7 @@ pub struct Scan {
 }
 
 impl Scan {
-    ghost use Rattle.std.specs.Prelude.{◌≡◌, [], ◌∷◌, ◌++◌, List, ◌↔◌, IsSome, IfSome};
+    ghost use Rattle.std.specs.Prelude.{◌≡◌, [], ◌∷◌, ◌++◌, List, ◌↔◌, ◌⊎◌, IsSome, IfSome};
     ghost use Rattle.std.specs.Option.{option_to_list};
     ghost use Rattle.tx_views.specs.Views.{View};
     ghost use Rattle.tx_private.specs.World.{World};
@@ -134,11 +134,12 @@ impl Scan {
     /// a space, and what is put back is the token itself. The errors are 9 where neither a digit nor a quantity
     /// stands, 10 at the digit with which the number passes 2^31-1, 11 at the token that fits no unit, and at an `l`
     /// behind `filll`, and 12 behind a unit where the dimension is 2^30 scaled points or more. No call may follow
-    /// another answer than More.
+    /// another answer than More. No quantity begins here but with the token and its meaning, whatever the answer is.
     pub fn token(&mut self, token: Tok, sense: Sense) -> Scanned
         requires { wish_of self.old ≡ ScanWish.Expanded }
         ensures says { (view : View) → Tells view result self.old (token_item view token sense) self.new }
         ensures names { IsWithin (scan_tokens self.new ++ tokens_back result) (token ∷ scan_tokens self.old) }
+        ensures begun { (self.new.begun ≡ self.old.begun) ⊎ (self.new.begun ≡ Some (record { token = token; sense = sense })) }
     {
         if self.automaton.begins_with(&sense) {
             self.begun = Some(Begun { token, sense });
@@ -150,11 +151,12 @@ impl Scan {
 
     /// Takes the end of the text in place of an expanded token (*TeX: The Program*, sections 407 and 440 to 462). It
     /// is as a token that belongs to nothing, and is never put back. The errors are those of `token`. No call may
-    /// follow another answer than More.
+    /// follow another answer than More. No quantity begins here.
     pub fn end(&mut self) -> Scanned
         requires { wish_of self.old ≡ ScanWish.Expanded }
         ensures says { (view : View) → Tells view result self.old (Given TextEnd) self.new }
         ensures names { IsWithin (scan_tokens self.new ++ tokens_back result) (scan_tokens self.old) }
+        ensures begun { self.new.begun ≡ self.old.begun }
     {
         let answer = self.automaton.token(Tok::Stop);
         answered(&mut self.taken, None, answer)
@@ -162,11 +164,12 @@ impl Scan {
 
     /// Takes a token as it stands, after a backquote, or None for the end of the text, and the code that the token
     /// has by `letter_of`. The error is 19 where it has none (*TeX: The Program*, section 442). No call may follow
-    /// another answer than More.
+    /// another answer than More. No quantity begins here.
     pub fn letter(&mut self, token: Option<Tok>, letter: Option<u8>) -> Scanned
         requires { wish_of self.old ≡ ScanWish.Plain }
         ensures says { (view : View) (meaning : Meaning) → letter ≡ letter_in view token → Tells view result self.old (plain_item view meaning token) self.new }
         ensures names { IsWithin (scan_tokens self.new ++ tokens_back result) (option_to_list token ++ scan_tokens self.old) }
+        ensures begun { self.new.begun ≡ self.old.begun }
     {
         let answer = self.automaton.letter(letter);
         answered(&mut self.taken, token, answer)
@@ -174,11 +177,13 @@ impl Scan {
 
     /// Takes the quantity that was wished for (*TeX: The Program*, sections 440, 449, 451, 455 and 461). The errors
     /// are 10 for an integer that is none of TeX's, 11 where an integer stands for a unit, 12 for a dimension that
-    /// is too large, and 13 where math glue meets another quantity. No call may follow another answer than More.
+    /// is too large, and 13 where math glue meets another quantity. No call may follow another answer than More. No
+    /// quantity has begun afterwards, whatever the answer is.
     pub fn quantity(&mut self, q: Quant) -> Scanned
         requires { wish_of self.old ≡ ScanWish.Quantity }
         ensures says { (view : View) → Tells view result self.old (quantity_item q) self.new }
         ensures names { IsWithin (scan_tokens self.new ++ tokens_back result) (scan_tokens self.old) }
+        ensures begun { self.new.begun ≡ None }
     {
         let answer = self.automaton.quantity(q);
         self.begun = None;
