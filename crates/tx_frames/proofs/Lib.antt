@@ -1,3 +1,4 @@
 pub mod FrameLemmas
 pub mod ScanLemmas
 pub mod TextLemmas
+pub mod KnowledgeLemmas

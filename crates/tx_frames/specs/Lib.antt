@@ -6,3 +6,4 @@ pub mod Texts
 pub mod Opened
 pub mod ListPlaces
 pub mod Scanned
+pub mod Knowledge

@@ -1,10 +1,12 @@
 //! What an item makes of any open reading, and how readings begin.
+#![tactic(auto, unfolding(tx_private::specs::Moves::move_in))]
 
 ghost use Rattle.std.specs.Prelude.{◌≡◌};
 ghost use Rattle.tx_private.specs.World.{World};
 ghost use Rattle.tx_views.specs.Views.{View};
 ghost use Rattle.tx_frames.specs.Kinds.{kind_in};
 ghost use Rattle.tx_frames.specs.Answers.{BecomesGiven, BecomesBegun, Suits};
+ghost use Rattle.tx_frames.specs.Knowledge.{Known, KnowsAnswer, KnowsFrame, KnowsItem, KnowsReading};
 
 use crate::answer::Answer;
 use crate::expansion::expansion_given;
@@ -22,7 +24,8 @@ use tx_tok::Toks;
 
 /// Begins a reading.
 pub fn begin(alloc: Global, reading: Reading) -> Answer
-    ensures { (view : View) (w : World) → BecomesBegun view (kind_in view reading) w result }
+    ensures becomes { (view : View) (w : World) → BecomesBegun view (kind_in view reading) w result }
+    ensures knows { (known : Known) → KnowsReading known reading → KnowsAnswer known result }
 {
     let none = Toks::new(alloc);
     match reading {
@@ -45,7 +48,8 @@ pub fn begin(alloc: Global, reading: Reading) -> Answer
 
 /// Begins a text.
 fn text(alloc: Global, kind: TextKind) -> Answer
-    ensures { (view : View) (w : World) → BecomesBegun view (kind_in view (Reading.Text kind)) w result }
+    ensures becomes { (view : View) (w : World) → BecomesBegun view (kind_in view (Reading.Text kind)) w result }
+    ensures knows { (known : Known) → KnowsAnswer known result }
 {
     Answer::Goes(
         Frame::Text(Text {
@@ -60,7 +64,8 @@ fn text(alloc: Global, kind: TextKind) -> Answer
 /// Gives an item to an open reading, which wished for it.
 pub fn feed(alloc: Global, frame: Frame, item: Item) -> Answer
     requires { Suits frame item }
-    ensures { (view : View) (w : World) → BecomesGiven view frame item w result }
+    ensures becomes { (view : View) (w : World) → BecomesGiven view frame item w result }
+    ensures knows { (known : Known) → KnowsFrame known frame → KnowsItem known item → KnowsAnswer known result }
 {
     match frame {
         Frame::LeftBrace => brace_given(alloc, item),

@@ -15,11 +15,12 @@ ghost use Rattle.tx_frames.specs.Kinds.{expanded_kind};
 ghost use Rattle.tx_frames.specs.Answers.{Becomes, BecomesGiven};
 ghost use Rattle.tx_frames.specs.ListPlaces.{the_quantity as the_quantity_of};
 ghost use Rattle.tx_frames.specs.Opened.{the_before, expanding, primitive_open, BeginsQuantity};
+ghost use Rattle.tx_frames.specs.Knowledge.{Known, KnowsAnswer, KnowsItem, KnowsSense, KnowsToken, KnowsValue};
 
 use crate::answer::{Answer, Print, Work};
 use crate::frame::{Frame, Stage};
 use crate::list_place::{ListPlace, list_place};
-use crate::numbered::{integer, numbered};
+use crate::numbers::{integer, numbered};
 use crate::value::{Item, Value};
 use std::alloc::Global;
 use tx_amounts::begins_quantity;
@@ -31,7 +32,8 @@ use tx_views::{Place, Sense};
 
 /// What comes of a token that was taken where an expanded one is wished for, within an expanded text or not.
 pub fn expand(alloc: Global, text: bool, token: Tok, sense: Sense) -> Answer
-    ensures { (view : View) (w : World) → Becomes view (expanding view text token sense) (expansion text (command_in view token sense) (sense_in view sense) [] w) w result }
+    ensures becomes { (view : View) (w : World) → Becomes view (expanding view text token sense) (expansion text (command_in view token sense) (sense_in view sense) [] w) w result }
+    ensures knows { (known : Known) → KnowsToken known token → KnowsSense known sense → KnowsAnswer known result }
 {
     match sense {
         Sense::Undefined => Answer::error(1, 0, 0),
@@ -55,7 +57,8 @@ pub fn expand(alloc: Global, text: bool, token: Tok, sense: Sense) -> Answer
 
 /// What comes of a primitive.
 fn expand_any(alloc: Global, text: bool, token: Tok, primitive: Primitive) -> Answer
-    ensures { (view : View) (w : World) → Becomes view (expanding view text token (Sense.Primitive primitive)) (expansion text (command_in view token (Sense.Primitive primitive)) (sense_in view (Sense.Primitive primitive)) [] w) w result }
+    ensures becomes { (view : View) (w : World) → Becomes view (expanding view text token (Sense.Primitive primitive)) (expansion text (command_in view token (Sense.Primitive primitive)) (sense_in view (Sense.Primitive primitive)) [] w) w result }
+    ensures knows { (known : Known) → KnowsToken known token → KnowsAnswer known result }
 {
     match primitive {
         Primitive::Expandable(expandable) => expand_primitive(alloc, text, expandable),
@@ -76,7 +79,8 @@ fn expand_any(alloc: Global, text: bool, token: Tok, primitive: Primitive) -> An
 
 /// What comes of an expandable primitive.
 fn expand_primitive(alloc: Global, text: bool, primitive: Expandable) -> Answer
-    ensures { (view : View) (w : World) → Becomes view (primitive_open text primitive) (expandable_primitive text primitive [] w) w result }
+    ensures becomes { (view : View) (w : World) → Becomes view (primitive_open text primitive) (expandable_primitive text primitive [] w) w result }
+    ensures knows { (known : Known) → KnowsAnswer known result }
 {
     let none = Toks::new(alloc);
     match primitive {
@@ -92,7 +96,8 @@ fn expand_primitive(alloc: Global, text: bool, primitive: Expandable) -> Answer
 
 /// An expansion, with an item more.
 pub(crate) fn expansion_given(alloc: Global, text: bool, stage: Stage, item: Item) -> Answer
-    ensures { (view : View) (w : World) → BecomesGiven view (Frame.Expansion text stage) item w result }
+    ensures becomes { (view : View) (w : World) → BecomesGiven view (Frame.Expansion text stage) item w result }
+    ensures knows { (known : Known) → KnowsItem known item → KnowsAnswer known result }
 {
     match stage {
         Stage::The => the_given(alloc, text, item),
@@ -107,7 +112,8 @@ pub(crate) fn expansion_given(alloc: Global, text: bool, stage: Stage, item: Ite
 
 /// `\the`, with the token behind it.
 fn the_given(alloc: Global, text: bool, item: Item) -> Answer
-    ensures { (view : View) (w : World) → BecomesGiven view (Frame.Expansion text Stage.The) item w result }
+    ensures becomes { (view : View) (w : World) → BecomesGiven view (Frame.Expansion text Stage.The) item w result }
+    ensures knows { (known : Known) → KnowsItem known item → KnowsAnswer known result }
 {
     match item {
         Item::Given(value) => the_value_given(alloc, text, value),
@@ -118,7 +124,8 @@ fn the_given(alloc: Global, text: bool, item: Item) -> Answer
 
 /// `\the`, with the value behind it.
 fn the_value_given(alloc: Global, text: bool, value: Value) -> Answer
-    ensures { (view : View) (w : World) → BecomesGiven view (Frame.Expansion text Stage.The) (Item.Given value) w result }
+    ensures becomes { (view : View) (w : World) → BecomesGiven view (Frame.Expansion text Stage.The) (Item.Given value) w result }
+    ensures knows { (known : Known) → KnowsValue known value → KnowsAnswer known result }
 {
     match value {
         Value::Command(token, sense) => the(alloc, text, token, sense),
@@ -132,7 +139,8 @@ fn the_value_given(alloc: Global, text: bool, value: Value) -> Answer
 
 /// `\the`, before a token that means this. *TeX: The Program*, section 465.
 fn the(alloc: Global, text: bool, token: Tok, sense: Sense) -> Answer
-    ensures { (view : View) (w : World) → Becomes view (the_before view text token sense) (the_of text (command_in view token sense) (sense_in view sense) [] w) w result }
+    ensures becomes { (view : View) (w : World) → Becomes view (the_before view text token sense) (the_of text (command_in view token sense) (sense_in view sense) [] w) w result }
+    ensures knows { (known : Known) → KnowsToken known token → KnowsSense known sense → KnowsAnswer known result }
 {
     match list_place(&sense) {
         ListPlace::At(place) => Answer::Works(Work::TheList(text, place)),
@@ -146,6 +154,7 @@ fn the(alloc: Global, text: bool, token: Tok, sense: Sense) -> Answer
 /// `\the`, before a quantity, or before what it can't be used with.
 fn the_quantity(alloc: Global, text: bool, token: Tok, sense: &Sense) -> Answer
     ensures goes { BeginsQuantity text token sense.now result }
+    ensures knows { (known : Known) → KnowsToken known token → KnowsSense known sense.now → KnowsAnswer known result }
 {
     if begins_quantity(*sense) {
         Answer::Goes(
@@ -159,7 +168,8 @@ fn the_quantity(alloc: Global, text: bool, token: Tok, sense: &Sense) -> Answer
 
 /// `\the`, before a register of `\toks`, with the item that is its number.
 fn register_given(text: bool, item: Item) -> Answer
-    ensures { (view : View) (o : Open) (w : World) → Becomes view o (byte_first 15 (λ n rest v. gives_tokens text (list_at (private_meaning.OfRegister private_meaning.Toks n) v) v) (item_in view item ∷ []) w) w result }
+    ensures becomes { (view : View) (o : Open) (w : World) → Becomes view o (byte_first 15 (λ n rest v. gives_tokens text (list_at (private_meaning.OfRegister private_meaning.Toks n) v) v) (item_in view item ∷ []) w) w result }
+    ensures knows { (known : Known) → KnowsAnswer known result }
 {
     match numbered(ByteError::Register, item) {
         Ok(no) => {
@@ -171,7 +181,8 @@ fn register_given(text: bool, item: Item) -> Answer
 
 /// `\the`, before the quantity that begins with a token, with the item that is the quantity.
 fn quantity_given(text: bool, token: Tok, sense: Sense, item: Item) -> Answer
-    ensures { (view : View) (w : World) → BecomesGiven view (Frame.Expansion text (Stage.TheQuantity token sense)) item w result }
+    ensures becomes { (view : View) (w : World) → BecomesGiven view (Frame.Expansion text (Stage.TheQuantity token sense)) item w result }
+    ensures knows { (known : Known) → KnowsAnswer known result }
 {
     match list_place(&sense) {
         ListPlace::At(place) => Answer::Works(Work::TheList(text, place)),
@@ -182,7 +193,8 @@ fn quantity_given(text: bool, token: Tok, sense: Sense, item: Item) -> Answer
 
 /// `\the`, with the item that is the quantity.
 fn amount_given(text: bool, token: Tok, sense: Sense, item: Item) -> Answer
-    ensures { (view : View) (o : Open) (w : World) → Becomes view o (the_quantity_of text (command_in view token sense) (sense_in view sense) (item_in view item ∷ []) w) w result }
+    ensures becomes { (view : View) (o : Open) (w : World) → Becomes view o (the_quantity_of text (command_in view token sense) (sense_in view sense) (item_in view item ∷ []) w) w result }
+    ensures knows { (known : Known) → KnowsAnswer known result }
 {
     match item {
         Item::Given(value) => amount_value_given(text, token, sense, value),
@@ -193,7 +205,8 @@ fn amount_given(text: bool, token: Tok, sense: Sense, item: Item) -> Answer
 
 /// `\the`, with the value that is the quantity.
 fn amount_value_given(text: bool, token: Tok, sense: Sense, value: Value) -> Answer
-    ensures { (view : View) (o : Open) (w : World) → Becomes view o (the_quantity_of text (command_in view token sense) (sense_in view sense) (item_in view (Item.Given value) ∷ []) w) w result }
+    ensures becomes { (view : View) (o : Open) (w : World) → Becomes view o (the_quantity_of text (command_in view token sense) (sense_in view sense) (item_in view (Item.Given value) ∷ []) w) w result }
+    ensures knows { (known : Known) → KnowsAnswer known result }
 {
     let _ = (token, sense);
     match value {
@@ -208,7 +221,8 @@ fn amount_value_given(text: bool, token: Tok, sense: Sense, value: Value) -> Ans
 
 /// `\number`, with the item that is its number.
 fn number_given(text: bool, item: Item) -> Answer
-    ensures { (view : View) (w : World) → BecomesGiven view (Frame.Expansion text Stage.Number) item w result }
+    ensures becomes { (view : View) (w : World) → BecomesGiven view (Frame.Expansion text Stage.Number) item w result }
+    ensures knows { (known : Known) → KnowsAnswer known result }
 {
     let _ = text;
     match integer(item) {
@@ -219,7 +233,8 @@ fn number_given(text: bool, item: Item) -> Answer
 
 /// `\romannumeral`, with the item that is its number.
 fn roman_given(text: bool, item: Item) -> Answer
-    ensures { (view : View) (w : World) → BecomesGiven view (Frame.Expansion text Stage.Roman) item w result }
+    ensures becomes { (view : View) (w : World) → BecomesGiven view (Frame.Expansion text Stage.Roman) item w result }
+    ensures knows { (known : Known) → KnowsAnswer known result }
 {
     let _ = text;
     match integer(item) {
@@ -230,7 +245,8 @@ fn roman_given(text: bool, item: Item) -> Answer
 
 /// `\string`, with the token behind it. At the end of the text it does nothing.
 fn string_given(alloc: Global, text: bool, item: Item) -> Answer
-    ensures { (view : View) (w : World) → BecomesGiven view (Frame.Expansion text Stage.String) item w result }
+    ensures becomes { (view : View) (w : World) → BecomesGiven view (Frame.Expansion text Stage.String) item w result }
+    ensures knows { (known : Known) → KnowsItem known item → KnowsAnswer known result }
 {
     match item {
         Item::Token(token, _) => Answer::Works(Work::Print(Print::Token(token))),
@@ -241,7 +257,8 @@ fn string_given(alloc: Global, text: bool, item: Item) -> Answer
 
 /// `\meaning`, with the token behind it. At the end of the text it does nothing.
 fn meaning_given(alloc: Global, text: bool, item: Item) -> Answer
-    ensures { (view : View) (w : World) → BecomesGiven view (Frame.Expansion text Stage.Meaning) item w result }
+    ensures becomes { (view : View) (w : World) → BecomesGiven view (Frame.Expansion text Stage.Meaning) item w result }
+    ensures knows { (known : Known) → KnowsItem known item → KnowsAnswer known result }
 {
     match item {
         Item::Token(_, sense) => Answer::Works(Work::Print(Print::Meaning(sense))),

@@ -2,6 +2,7 @@
 
 ghost use Rattle.std.specs.Prelude.{◌≡◌};
 ghost use Rattle.tx_frames.specs.Frames.{wish_of, text_wish as text_wish_of, list_wish as list_wish_of, stage_wish as stage_wish_of};
+ghost use Rattle.tx_frames.specs.Knowledge.{Known, KnowsFrame, KnowsWish};
 
 use crate::reading::{Reading, TextKind};
 use tx_amounts::{Scan, ScanWish};
@@ -81,7 +82,8 @@ pub enum Frame {
 impl Frame {
     /// How the reading takes its next item.
     pub fn wish(&self) -> Wish
-        ensures { result ≡ wish_of self.now }
+        ensures wish { result ≡ wish_of self.now }
+        ensures knows { (known : Known) → KnowsFrame known self.now → KnowsWish known result }
     {
         match self {
             Frame::LeftBrace | Frame::Equals => Wish::Expanded(false),

@@ -8,6 +8,7 @@ ghost use Rattle.tx_private.specs.Expansions.{the_of};
 ghost use Rattle.tx_views.specs.Views.{View};
 ghost use Rattle.tx_views.specs.Meanings.{sense_in};
 ghost use Rattle.tx_frames.specs.ListPlaces.{the_by, list_by};
+ghost use Rattle.tx_frames.specs.Knowledge.{Known, KnowsListPlace};
 
 use tx_eqtb::RegKind;
 use tx_prims::primitives::{Assignment, Primitive};
@@ -28,6 +29,7 @@ pub(crate) enum ListPlace {
 pub(crate) fn list_place(sense: &Sense) -> ListPlace
     ensures the { (view : View) (text : Bool) (command : Command) (items : List private.Item) (w : World) → the_of text command (sense_in view sense.now) items w ≡ the_by view result text command (sense_in view sense.now) items w }
     ensures list { (view : View) (items : List private.Item) (w : World) → list_from (sense_in view sense.now) items w ≡ list_by view result (sense_in view sense.now) items w }
+    ensures knows { (known : Known) → KnowsListPlace known result }
 {
     match sense {
         Sense::Register(kind, no) => register_place(*kind, *no),
@@ -47,6 +49,7 @@ pub(crate) fn list_place(sense: &Sense) -> ListPlace
 fn register_place(kind: RegKind, no: u16) -> ListPlace
     ensures the { (view : View) (text : Bool) (command : Command) (items : List private.Item) (w : World) → the_of text command (sense_in view (Sense.Register kind no)) items w ≡ the_by view result text command (sense_in view (Sense.Register kind no)) items w }
     ensures list { (view : View) (items : List private.Item) (w : World) → list_from (sense_in view (Sense.Register kind no)) items w ≡ list_by view result (sense_in view (Sense.Register kind no)) items w }
+    ensures knows { (known : Known) → KnowsListPlace known result }
 {
     match kind {
         RegKind::Toks => ListPlace::At(Place::Register(RegKind::Toks, no)),
@@ -58,6 +61,7 @@ fn register_place(kind: RegKind, no: u16) -> ListPlace
 fn primitive_place(primitive: Primitive) -> ListPlace
     ensures the { (view : View) (text : Bool) (command : Command) (items : List private.Item) (w : World) → the_of text command (sense_in view (Sense.Primitive primitive)) items w ≡ the_by view result text command (sense_in view (Sense.Primitive primitive)) items w }
     ensures list { (view : View) (items : List private.Item) (w : World) → list_from (sense_in view (Sense.Primitive primitive)) items w ≡ list_by view result (sense_in view (Sense.Primitive primitive)) items w }
+    ensures knows { (known : Known) → KnowsListPlace known result }
 {
     match primitive {
         Primitive::ListParameter(parameter) => ListPlace::At(Place::List(parameter)),
@@ -75,6 +79,7 @@ fn primitive_place(primitive: Primitive) -> ListPlace
 fn assignment_place(assignment: Assignment) -> ListPlace
     ensures the { (view : View) (text : Bool) (command : Command) (items : List private.Item) (w : World) → the_of text command (sense_in view (Sense.Primitive (Primitive.Assignment assignment))) items w ≡ the_by view result text command (sense_in view (Sense.Primitive (Primitive.Assignment assignment))) items w }
     ensures list { (view : View) (items : List private.Item) (w : World) → list_from (sense_in view (Sense.Primitive (Primitive.Assignment assignment))) items w ≡ list_by view result (sense_in view (Sense.Primitive (Primitive.Assignment assignment))) items w }
+    ensures knows { (known : Known) → KnowsListPlace known result }
 {
     match assignment {
         Assignment::Toks => ListPlace::Numbered,

@@ -23,8 +23,10 @@ const NOT_BUILT: Refused = Refused {
     limit: None,
 };
 
-/// The number of a register or of a byte, which an item gives. *TeX: The Program*, sections 433 and 434.
-pub(crate) fn numbered(error: ByteError, item: Item) -> Result<u8, Refused>
+/// The number of a register or of a byte, which an item gives: an integer from 0 to 255. Another integer is the error
+/// of its kind, and an item that gives no integer is the error of what isn't built. *TeX: The Program*, sections 433
+/// and 434.
+pub fn numbered(error: ByteError, item: Item) -> Result<u8, Refused>
     ensures { (view : View) (further : ℕ → List private.Item → World → private.Move) (items : List private.Item) (w : World) → byte_first (number_of error) further (item_in view item ∷ items) w ≡ led result (λ n. further n items w) w }
 {
     match item {

@@ -1,4 +1,5 @@
 //! Internal quantities. *TeX: The Program*, section 413.
+#![tactic(auto, unfolding(tx_private::specs::Moves::move_in))]
 
 ghost use Rattle.std.specs.Prelude.{◌≡◌, ◌∷◌, []};
 ghost use Rattle.tx_private.specs.World.{World};
@@ -10,10 +11,11 @@ ghost use Rattle.tx_views.specs.Views.{View};
 ghost use Rattle.tx_views.specs.Places.{register_in, table_in};
 ghost use Rattle.tx_frames.specs.Values.{command_in, item_in};
 ghost use Rattle.tx_frames.specs.Answers.{Becomes, BecomesGiven, BecomesBegun};
+ghost use Rattle.tx_frames.specs.Knowledge.{Known, KnowsAnswer, KnowsToken};
 
 use crate::answer::{Answer, Work};
 use crate::frame::Frame;
-use crate::numbered::numbered as numbered_item;
+use crate::numbers::numbered as numbered_item;
 use crate::value::{Item, Value};
 use std::alloc::Global;
 use tx_assign::{ByteError, codes, register};
@@ -25,7 +27,8 @@ use tx_views::{CodeTable, Place, Sense};
 
 /// The quantity that begins with a token that means this.
 pub(crate) fn quantity(alloc: Global, token: Tok, sense: Sense) -> Answer
-    ensures { (view : View) (w : World) → BecomesBegun view (private.QuantityFrom (command_in view token sense)) w result }
+    ensures becomes { (view : View) (w : World) → BecomesBegun view (private.QuantityFrom (command_in view token sense)) w result }
+    ensures knows { (known : Known) → KnowsToken known token → KnowsAnswer known result }
 {
     match sense {
         Sense::Code(_, code) => {
@@ -45,7 +48,8 @@ pub(crate) fn quantity(alloc: Global, token: Tok, sense: Sense) -> Answer
 
 /// The quantity that begins with a primitive.
 fn primitive_quantity(alloc: Global, token: Tok, primitive: Primitive) -> Answer
-    ensures { (view : View) (w : World) → BecomesBegun view (private.QuantityFrom (command_in view token (Sense.Primitive primitive))) w result }
+    ensures becomes { (view : View) (w : World) → BecomesBegun view (private.QuantityFrom (command_in view token (Sense.Primitive primitive))) w result }
+    ensures knows { (known : Known) → KnowsToken known token → KnowsAnswer known result }
 {
     match primitive {
         Primitive::Assignment(assignment) => numbered(alloc, token, assignment),
@@ -65,7 +69,8 @@ fn primitive_quantity(alloc: Global, token: Tok, primitive: Primitive) -> Answer
 
 /// The quantity that begins with a kind of register or with a table of codes, whose number is due.
 fn numbered(alloc: Global, token: Tok, assignment: Assignment) -> Answer
-    ensures { (view : View) (w : World) → BecomesBegun view (private.QuantityFrom (command_in view token (Sense.Primitive (Primitive.Assignment assignment)))) w result }
+    ensures becomes { (view : View) (w : World) → BecomesBegun view (private.QuantityFrom (command_in view token (Sense.Primitive (Primitive.Assignment assignment)))) w result }
+    ensures knows { (known : Known) → KnowsToken known token → KnowsAnswer known result }
 {
     match register(assignment) {
         Some(_) => Answer::Goes(Frame::Quantity(token, assignment), Toks::new(alloc)),
@@ -78,7 +83,8 @@ fn numbered(alloc: Global, token: Tok, assignment: Assignment) -> Answer
 
 /// A quantity that began with such a command, with an item more, which is its number.
 pub(crate) fn quantity_given(token: Tok, assignment: Assignment, item: Item) -> Answer
-    ensures { (view : View) (w : World) → BecomesGiven view (Frame.Quantity token assignment) item w result }
+    ensures becomes { (view : View) (w : World) → BecomesGiven view (Frame.Quantity token assignment) item w result }
+    ensures knows { (known : Known) → KnowsAnswer known result }
 {
     match register(assignment) {
         Some(kind) => register_given(kind, item),
@@ -91,7 +97,8 @@ pub(crate) fn quantity_given(token: Tok, assignment: Assignment, item: Item) -> 
 
 /// A register, with the item that is its number.
 fn register_given(kind: RegKind, item: Item) -> Answer
-    ensures { (view : View) (o : Open) (w : World) → Becomes view o (byte_first 15 (λ n rest v. gives (private_meaning.OfRegister (register_in kind) n) v) (item_in view item ∷ []) w) w result }
+    ensures becomes { (view : View) (o : Open) (w : World) → Becomes view o (byte_first 15 (λ n rest v. gives (private_meaning.OfRegister (register_in kind) n) v) (item_in view item ∷ []) w) w result }
+    ensures knows { (known : Known) → KnowsAnswer known result }
 {
     match numbered_item(ByteError::Register, item) {
         Ok(no) => Answer::Works(Work::Amount(Place::Register(kind, u16::from(no)))),
@@ -101,7 +108,8 @@ fn register_given(kind: RegKind, item: Item) -> Answer
 
 /// A code of a table, with the item that is its byte.
 fn code_given(table: CodeTable, item: Item) -> Answer
-    ensures { (view : View) (o : Open) (w : World) → Becomes view o (byte_first 16 (λ b rest v. gives (private_meaning.OfCode (table_in table) b) v) (item_in view item ∷ []) w) w result }
+    ensures becomes { (view : View) (o : Open) (w : World) → Becomes view o (byte_first 16 (λ b rest v. gives (private_meaning.OfCode (table_in table) b) v) (item_in view item ∷ []) w) w result }
+    ensures knows { (known : Known) → KnowsAnswer known result }
 {
     match numbered_item(ByteError::Character, item) {
         Ok(byte) => Answer::Works(Work::Amount(Place::Code(table, byte))),

@@ -6,6 +6,7 @@ ghost use Rattle.tx_private.specs.Lists.{is_skipped as is_skipped_in, is_begin a
 ghost use Rattle.tx_views.specs.Views.{View, viewed};
 ghost use Rattle.tx_views.specs.Meanings.{sense_in};
 ghost use Rattle.tx_frames.specs.Answers.{BecomesGiven};
+ghost use Rattle.tx_frames.specs.Knowledge.{Known, KnowsAnswer, KnowsItem, KnowsToken, KnowsValue};
 
 use crate::answer::Answer;
 use crate::frame::Frame;
@@ -16,7 +17,7 @@ use tx_tok::{Cat, Tok, Toks};
 use tx_views::Sense;
 
 /// Whether what means this is skipped before a left brace: spaces and `\relax`.
-pub(crate) fn is_skipped(sense: &Sense) -> bool
+pub fn is_skipped(sense: &Sense) -> bool
     ensures { (view : View) → result ≡ is_skipped_in (sense_in view sense.now) }
 {
     match sense {
@@ -55,15 +56,15 @@ fn is_begin(sense: &Sense) -> bool
     matches!(sense, Sense::Char(Cat::Begin, _))
 }
 
-/// Whether what means this is a space.
-fn is_space(sense: &Sense) -> bool
+/// Whether what means this is a character of category space.
+pub fn is_space(sense: &Sense) -> bool
     ensures { (view : View) → result ≡ is_space_in (sense_in view sense.now) }
 {
     matches!(sense, Sense::Char(Cat::Space, _))
 }
 
-/// Whether a token is an equals sign.
-fn is_equals(token: Tok) -> bool
+/// Whether a token is the character `=` of category other.
+pub fn is_equals(token: Tok) -> bool
     ensures { (view : View) → result ≡ is_equals_in (viewed view token) }
 {
     match token {
@@ -74,7 +75,8 @@ fn is_equals(token: Tok) -> bool
 
 /// A left brace, with an item more. *TeX: The Program*, section 403.
 pub(crate) fn brace_given(alloc: Global, item: Item) -> Answer
-    ensures { (view : View) (w : World) → BecomesGiven view Frame.LeftBrace item w result }
+    ensures becomes { (view : View) (w : World) → BecomesGiven view Frame.LeftBrace item w result }
+    ensures knows { (known : Known) → KnowsAnswer known result }
 {
     match item {
         Item::Given(value) => brace_value_given(alloc, value),
@@ -85,7 +87,8 @@ pub(crate) fn brace_given(alloc: Global, item: Item) -> Answer
 
 /// A left brace, with a value more.
 fn brace_value_given(alloc: Global, value: Value) -> Answer
-    ensures { (view : View) (w : World) → BecomesGiven view Frame.LeftBrace (Item.Given value) w result }
+    ensures becomes { (view : View) (w : World) → BecomesGiven view Frame.LeftBrace (Item.Given value) w result }
+    ensures knows { (known : Known) → KnowsAnswer known result }
 {
     match value {
         Value::Command(token, sense) => brace(alloc, token, sense),
@@ -99,7 +102,8 @@ fn brace_value_given(alloc: Global, value: Value) -> Answer
 
 /// A left brace, with a token that can't be expanded.
 fn brace(alloc: Global, token: Tok, sense: Sense) -> Answer
-    ensures { (view : View) (w : World) → BecomesGiven view Frame.LeftBrace (Item.Given (Value.Command token sense)) w result }
+    ensures becomes { (view : View) (w : World) → BecomesGiven view Frame.LeftBrace (Item.Given (Value.Command token sense)) w result }
+    ensures knows { (known : Known) → KnowsAnswer known result }
 {
     let _ = token;
     if is_skipped(&sense) {
@@ -113,7 +117,8 @@ fn brace(alloc: Global, token: Tok, sense: Sense) -> Answer
 
 /// An equals sign or none, with an item more. *TeX: The Program*, section 405.
 pub(crate) fn equals_given(alloc: Global, item: Item) -> Answer
-    ensures { (view : View) (w : World) → BecomesGiven view Frame.Equals item w result }
+    ensures becomes { (view : View) (w : World) → BecomesGiven view Frame.Equals item w result }
+    ensures knows { (known : Known) → KnowsItem known item → KnowsAnswer known result }
 {
     match item {
         Item::Given(value) => equals_value_given(alloc, value),
@@ -124,7 +129,8 @@ pub(crate) fn equals_given(alloc: Global, item: Item) -> Answer
 
 /// An equals sign or none, with a value more.
 fn equals_value_given(alloc: Global, value: Value) -> Answer
-    ensures { (view : View) (w : World) → BecomesGiven view Frame.Equals (Item.Given value) w result }
+    ensures becomes { (view : View) (w : World) → BecomesGiven view Frame.Equals (Item.Given value) w result }
+    ensures knows { (known : Known) → KnowsValue known value → KnowsAnswer known result }
 {
     match value {
         Value::Command(token, sense) => equals(alloc, token, sense),
@@ -138,7 +144,8 @@ fn equals_value_given(alloc: Global, value: Value) -> Answer
 
 /// An equals sign or none, with a token that can't be expanded.
 fn equals(alloc: Global, token: Tok, sense: Sense) -> Answer
-    ensures { (view : View) (w : World) → BecomesGiven view Frame.Equals (Item.Given (Value.Command token sense)) w result }
+    ensures becomes { (view : View) (w : World) → BecomesGiven view Frame.Equals (Item.Given (Value.Command token sense)) w result }
+    ensures knows { (known : Known) → KnowsToken known token → KnowsAnswer known result }
 {
     if is_space(&sense) {
         return Answer::Goes(Frame::Equals, Toks::new(alloc));

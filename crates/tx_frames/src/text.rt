@@ -9,6 +9,7 @@ ghost use Rattle.tx_views.specs.Views.{View, viewed};
 ghost use Rattle.tx_frames.specs.Frames.{is_body};
 ghost use Rattle.tx_frames.specs.Answers.{BecomesGiven};
 ghost use Rattle.tx_frames.specs.Texts.{AddsToken, AddsOn, Closes, GoesOnWith};
+ghost use Rattle.tx_frames.specs.Knowledge.{Known, KnowsAnswer, KnowsItem, KnowsToken, KnowsTokens, KnowsValue};
 
 use crate::answer::Answer;
 use crate::frame::{Frame, Text};
@@ -32,7 +33,8 @@ fn is_body(kind: TextKind) -> bool
 
 /// A text, with an item more.
 pub(crate) fn text_given(alloc: Global, text: Text, item: Item) -> Answer
-    ensures { (view : View) (w : World) → BecomesGiven view (Frame.Text text) item w result }
+    ensures becomes { (view : View) (w : World) → BecomesGiven view (Frame.Text text) item w result }
+    ensures knows { (known : Known) → KnowsTokens known text.tokens → KnowsItem known item → KnowsAnswer known result }
 {
     match item {
         Item::Token(token, _) => token_given(alloc, text, token),
@@ -43,7 +45,8 @@ pub(crate) fn text_given(alloc: Global, text: Text, item: Item) -> Answer
 
 /// A text, with a value more: a token that can't be expanded, or what `\the` gave.
 fn value_given(alloc: Global, text: Text, value: Value) -> Answer
-    ensures { (view : View) (w : World) → BecomesGiven view (Frame.Text text) (Item.Given value) w result }
+    ensures becomes { (view : View) (w : World) → BecomesGiven view (Frame.Text text) (Item.Given value) w result }
+    ensures knows { (known : Known) → KnowsTokens known text.tokens → KnowsValue known value → KnowsAnswer known result }
 {
     match value {
         Value::Command(token, _) => token_given(alloc, text, token),
@@ -57,7 +60,8 @@ fn value_given(alloc: Global, text: Text, value: Value) -> Answer
 
 /// A text, with a token more. In the body of a definition a parameter isn't built yet.
 fn token_given(alloc: Global, text: Text, token: Tok) -> Answer
-    ensures { AddsToken text token result }
+    ensures becomes { AddsToken text token result }
+    ensures knows { (known : Known) → KnowsTokens known text.tokens → KnowsToken known token → KnowsAnswer known result }
 {
     if is_refused(text.kind, token) {
         return Answer::error(63, 0, 0);
@@ -74,7 +78,8 @@ fn is_refused(kind: TextKind, token: Tok) -> bool
 
 /// A text, with a token more that can stand in it.
 fn added(alloc: Global, text: Text, token: Tok) -> Answer
-    ensures { AddsOn text token result }
+    ensures becomes { AddsOn text token result }
+    ensures knows { (known : Known) → KnowsTokens known text.tokens → KnowsToken known token → KnowsAnswer known result }
 {
     if is_left_brace(token) {
         return within(alloc, text, token);
@@ -92,7 +97,8 @@ fn added(alloc: Global, text: Text, token: Tok) -> Answer
 
 /// A text, with a left brace more.
 fn within(alloc: Global, text: Text, token: Tok) -> Answer
-    ensures { GoesOnWith text.kind (text.groups + 1) (text.tokens ++ token ∷ []) result }
+    ensures becomes { GoesOnWith text.kind (text.groups + 1) (text.tokens ++ token ∷ []) result }
+    ensures knows { (known : Known) → KnowsTokens known text.tokens → KnowsToken known token → KnowsAnswer known result }
 {
     let Text {
         kind,
@@ -108,7 +114,8 @@ fn within(alloc: Global, text: Text, token: Tok) -> Answer
 
 /// A text, with a right brace more, which ends the innermost group in it, or the text.
 fn closed(alloc: Global, text: Text, token: Tok) -> Answer
-    ensures { Closes text token result }
+    ensures becomes { Closes text token result }
+    ensures knows { (known : Known) → KnowsTokens known text.tokens → KnowsToken known token → KnowsAnswer known result }
 {
     let Text {
         kind,
@@ -144,7 +151,8 @@ fn is_right_brace(token: Tok) -> bool
 
 /// A text in which so many groups are open, with a token more.
 fn with_token(alloc: Global, kind: TextKind, groups: usize, tokens: Toks, token: Tok) -> Answer
-    ensures { GoesOnWith kind groups (tokens ++ token ∷ []) result }
+    ensures becomes { GoesOnWith kind groups (tokens ++ token ∷ []) result }
+    ensures knows { (known : Known) → KnowsTokens known tokens → KnowsToken known token → KnowsAnswer known result }
 {
     let mut tokens = tokens.0;
     match tokens.push(token) {
@@ -155,7 +163,8 @@ fn with_token(alloc: Global, kind: TextKind, groups: usize, tokens: Toks, token:
 
 /// A text, with the tokens that `\the` gave.
 fn tokens_given(alloc: Global, text: Text, more: Toks) -> Answer
-    ensures { GoesOnWith text.kind text.groups (text.tokens ++ more) result }
+    ensures becomes { GoesOnWith text.kind text.groups (text.tokens ++ more) result }
+    ensures knows { (known : Known) → KnowsTokens known text.tokens → KnowsTokens known more → KnowsAnswer known result }
 {
     let Text {
         kind,
@@ -171,7 +180,8 @@ fn tokens_given(alloc: Global, text: Text, more: Toks) -> Answer
 
 /// A text with these tokens, if they are not too many for one list.
 fn bounded(alloc: Global, kind: TextKind, groups: usize, tokens: Toks) -> Answer
-    ensures { GoesOnWith kind groups tokens result }
+    ensures becomes { GoesOnWith kind groups tokens result }
+    ensures knows { (known : Known) → KnowsTokens known tokens → KnowsAnswer known result }
 {
     if tokens.len() > MOST_TOKENS {
         return Answer::error(57, 5, 262_144);

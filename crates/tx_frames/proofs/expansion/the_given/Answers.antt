@@ -7,8 +7,12 @@ use Rattle.tx_frames.specs.declared.frame.Stage.TheVariants as stage
 use Rattle.tx_frames.specs.declared.value.Item.TheVariants as item
 use Rattle.tx_frames.specs.declared.value.Value.TheVariants as value
 use Rattle.tx_frames.specs.Answers.{Becomes, BecomesGiven, BecomesBegun}
+use Rattle.tx_frames.specs.Knowledge.{KnowsItem}
 use Rattle.tx_frames.proofs.expansion.the_given.Goals as goal
 
-pub returns-in-Given : goal.returns-in-Given
-returns-in-Given c view w =
-    subst (λ i. BecomesGiven view (frame.Expansion c.args.text stage.The) i w c.the_value_given.result) (sym c.in-Given.is) (c.the_value_given.ensures view w)
+pub returns-in-Given-clause-becomes : goal.returns-in-Given-clause-becomes
+returns-in-Given-clause-becomes c view w =
+    subst (λ i. BecomesGiven view (frame.Expansion c.args.text stage.The) i w c.the_value_given.result) (sym c.in-Given.is) (c.the_value_given.ensures.becomes view w)
+
+pub returns-in-Given-clause-knows : goal.returns-in-Given-clause-knows
+returns-in-Given-clause-knows c known i = c.the_value_given.ensures.knows known (subst (λ x. KnowsItem known x) c.in-Given.is i)

@@ -12,11 +12,14 @@ use Rattle.tx_frames.specs.Opened.{behind_sense}
 use Rattle.tx_frames.proofs.FrameLemmas.{becomes-same}
 use Rattle.tx_frames.proofs.list.first.Goals as goal
 
-pub returns : goal.returns
-returns c view w =
+pub returns-clause-becomes : goal.returns-clause-becomes
+returns-clause-becomes c view w =
     let m = sense_in view c.args.sense in
     let none : is_skipped m ≡ false = sym (c.is_skipped.ensures view) ∙ c.if-is_skipped.false in
     becomes-same view (given (open_of view (frame.List list.Start)) (item_in view (item.Given (value.Command c.args.token c.args.sense)))) (behind_sense view c.args.sense) _ _ w c.behind.result
     (record { kind = refl; says = λ i later v. ap (λ t. cond t (list_value (i ∷ later) v) (list_from m (i ∷ later) v)) none })
     (ap (λ t. cond t (list_value [] w) (list_from m [] w)) none)
-    (c.behind.ensures view w)
+    (c.behind.ensures.becomes view w)
+
+pub returns-clause-knows : goal.returns-clause-knows
+returns-clause-knows c known = c.behind.ensures.knows known

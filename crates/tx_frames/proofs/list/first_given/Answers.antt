@@ -9,6 +9,9 @@ use Rattle.tx_frames.specs.declared.value.Value.TheVariants as value
 use Rattle.tx_frames.specs.Answers.{Becomes, BecomesGiven, BecomesBegun}
 use Rattle.tx_frames.proofs.list.first_given.Goals as goal
 
-pub returns-in-Given : goal.returns-in-Given
-returns-in-Given c view w =
-    subst (λ i. BecomesGiven view (frame.List list.Start) i w c.first_value_given.result) (sym c.in-Given.is) (c.first_value_given.ensures view w)
+pub returns-in-Given-clause-becomes : goal.returns-in-Given-clause-becomes
+returns-in-Given-clause-becomes c view w =
+    subst (λ i. BecomesGiven view (frame.List list.Start) i w c.first_value_given.result) (sym c.in-Given.is) (c.first_value_given.ensures.becomes view w)
+
+pub returns-in-Given-clause-knows : goal.returns-in-Given-clause-knows
+returns-in-Given-clause-knows c known = c.first_value_given.ensures.knows known

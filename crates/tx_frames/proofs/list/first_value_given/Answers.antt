@@ -9,6 +9,9 @@ use Rattle.tx_frames.specs.declared.value.Value.TheVariants as value
 use Rattle.tx_frames.specs.Answers.{Becomes, BecomesGiven, BecomesBegun}
 use Rattle.tx_frames.proofs.list.first_value_given.Goals as goal
 
-pub returns-in-Command : goal.returns-in-Command
-returns-in-Command c view w =
-    subst (λ v. BecomesGiven view (frame.List list.Start) (item.Given v) w c.first.result) (sym c.in-Command.is) (c.first.ensures view w)
+pub returns-in-Command-clause-becomes : goal.returns-in-Command-clause-becomes
+returns-in-Command-clause-becomes c view w =
+    subst (λ v. BecomesGiven view (frame.List list.Start) (item.Given v) w c.first.result) (sym c.in-Command.is) (c.first.ensures.becomes view w)
+
+pub returns-in-Command-clause-knows : goal.returns-in-Command-clause-knows
+returns-in-Command-clause-knows c known = c.first.ensures.knows known

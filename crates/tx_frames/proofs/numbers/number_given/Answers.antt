@@ -4,7 +4,7 @@ use Rattle.tx_assign.specs.Refusals.{led, number_of}
 use Rattle.std.specs.Prelude.{◌≡◌}
 use Rattle.tx_frames.specs.declared.value.Item.TheVariants as item
 use Rattle.tx_frames.specs.Values.{item_in}
-use Rattle.tx_frames.proofs.numbered.number_given.Goals as goal
+use Rattle.tx_frames.proofs.numbers.number_given.Goals as goal
 
 pub returns-in-Amount : goal.returns-in-Amount
 returns-in-Amount c view further items w =

@@ -9,6 +9,9 @@ use Rattle.tx_frames.specs.declared.value.Value.TheVariants as value
 use Rattle.tx_frames.specs.Answers.{Becomes, BecomesGiven, BecomesBegun}
 use Rattle.tx_frames.proofs.simple.brace_value_given.Goals as goal
 
-pub returns-in-Command : goal.returns-in-Command
-returns-in-Command c view w =
-    subst (λ v. BecomesGiven view frame.LeftBrace (item.Given v) w c.brace.result) (sym c.in-Command.is) (c.brace.ensures view w)
+pub returns-in-Command-clause-becomes : goal.returns-in-Command-clause-becomes
+returns-in-Command-clause-becomes c view w =
+    subst (λ v. BecomesGiven view frame.LeftBrace (item.Given v) w c.brace.result) (sym c.in-Command.is) (c.brace.ensures.becomes view w)
+
+pub returns-in-Command-clause-knows : goal.returns-in-Command-clause-knows
+returns-in-Command-clause-knows c known = c.brace.ensures.knows known
