@@ -1,5 +1,5 @@
 -- Answers, and the open readings that they are about.
-use Rattle.std.proofs.Common.{◌≡◌, List, [], ◌∷◌, refl, sym, ◌∙◌, ap}
+use Rattle.std.proofs.Common.{◌≡◌, ◌∙◌}
 use Rattle.tx_private.specs.World.{World}
 use Rattle.tx_private.specs.Readings.{Move}
 use Rattle.tx_opens.specs.Opens.{Open, SaysSame}

@@ -1,19 +1,17 @@
 -- Scans as open readings.
-use Rattle.std.proofs.Common.{◌≡◌, Bool, true, false, List, [], ◌∷◌, ◌++◌, Option, None, Some, refl, sym, ◌∙◌, ap}
+use Rattle.std.proofs.Common.{◌≡◌, Bool, true, false, List, [], ◌∷◌, Option, None, Some, refl, sym, ◌∙◌, ap}
 use Rattle.std.specs.Option.{option_map}
 use Rattle.tx_model.specs.Tokens.{Token}
 use Rattle.tx_tok.specs.declared.tok.Tok.{Tok}
-use Rattle.tx_num.specs.declared.quantities.Quant.{Quant}
 use Rattle.tx_quant.specs.Items as quantities
 use Rattle.tx_private.specs.Meanings.{Meaning}
-use Rattle.tx_private.specs.World.{World, Command, put_in_front}
+use Rattle.tx_private.specs.World.{World, put_in_front}
 use Rattle.tx_private.specs.Readings as private
 use Rattle.tx_private.specs.Moves.{move_in}
 use Rattle.tx_private.specs.Scans.{scan_from, starting, by_start, may_start, scanned_item, token_of}
 use Rattle.tx_opens.specs.Opens.{begun}
 use Rattle.tx_amounts.specs.declared.begun.Begun.{Begun}
 use Rattle.tx_amounts.specs.declared.scan.Scan.{Scan}
-use Rattle.tx_amounts.specs.declared.amount.Amount.{Amount}
 use Rattle.tx_amounts.specs.declared.amount.ScanWish.{ScanWish}
 use Rattle.tx_amounts.specs.declared.amount.ScanWish.TheVariants as how
 use Rattle.tx_amounts.specs.declared.amount.Scanned.{Scanned}

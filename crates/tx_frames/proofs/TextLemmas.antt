@@ -1,9 +1,9 @@
 -- Texts with tokens more.
-use Rattle.std.proofs.Common.{◌≡◌, ℕ, zero, suc, ◌+◌, ◌-◌, Bool, true, false, cond, List, [], ◌∷◌, ◌++◌, refl, sym, ◌∙◌, ap}
+use Rattle.std.proofs.Common.{◌≡◌, ℕ, suc, ◌+◌, true, false, cond, List, [], ◌∷◌, ◌++◌, refl, sym, ◌∙◌, ap}
 use Rattle.tx_model.specs.Tokens.{Token, is_left_brace, is_right_brace}
 use Rattle.tx_private.specs.World.{World}
 use Rattle.tx_private.specs.Readings.{Item, Move}
-use Rattle.tx_private.specs.Lists.{balanced, bounded, adding, closed_in}
+use Rattle.tx_private.specs.Lists.{balanced, bounded, closed_in}
 use Rattle.tx_tok.specs.declared.tok.Tok.{Tok}
 use Rattle.tx_views.specs.Views.{View, viewed, all_viewed}
 use Rattle.tx_frames.specs.declared.frame.Text.{Text}

@@ -1,9 +1,9 @@
 -- What answers mean.
-use Rattle.std.specs.Prelude.{◌≡◌, ℕ, ℤ, Bool, List, [], ◌∷◌, codes}
+use Rattle.std.specs.Prelude.{◌≡◌, ℕ, List, [], ◌∷◌, codes}
 use Rattle.tx_assign.specs.Refusals.{refused_in}
 use Rattle.tx_prims.specs.declared.primitives.IntegerParameter.TheVariants.{EscapeChar}
 use Rattle.tx_model.specs.Shown.{shown_token}
-use Rattle.tx_private.specs.Errors.{Error, decimal_of, showing}
+use Rattle.tx_private.specs.Errors.{decimal_of, showing}
 use Rattle.tx_private.specs.World.{World, put_in_front}
 use Rattle.tx_private.specs.Environment.{parameter_of}
 use Rattle.tx_private.specs.Described.{meaning_text, roman}
@@ -14,12 +14,9 @@ use Rattle.tx_private.specs.Expansions.{list_at, gives_tokens}
 use Rattle.tx_private.specs.Readings as private
 use Rattle.tx_opens.specs.Opens.{Open, given, SaysSame, begun}
 use Rattle.tx_private.specs.Moves.{move_in}
-use Rattle.tx_tok.specs.declared.tok.Tok.{Tok}
-use Rattle.tx_views.specs.declared.sense.Sense.{Sense}
 use Rattle.tx_views.specs.Views.{View, viewed, all_viewed, list_in}
 use Rattle.tx_views.specs.Places.{address_in}
 use Rattle.tx_views.specs.Meanings.{sense_in}
-use Rattle.tx_frames.specs.declared.reading.Reading.{Reading}
 use Rattle.tx_frames.specs.declared.frame.Frame.{Frame}
 use Rattle.tx_frames.specs.declared.frame.Frame.TheVariants as frame
 use Rattle.tx_frames.specs.declared.frame.Wish.{Wish}
@@ -32,8 +29,8 @@ use Rattle.tx_frames.specs.declared.answer.Work.{Work}
 use Rattle.tx_frames.specs.declared.answer.Work.TheVariants as work
 use Rattle.tx_frames.specs.declared.answer.Answer.{Answer}
 use Rattle.tx_frames.specs.declared.answer.Answer.TheVariants as answer
-use Rattle.tx_frames.specs.Values.{command_in, value_in, item_in}
-use Rattle.tx_frames.specs.Kinds.{expanded_kind, kind_in, wished}
+use Rattle.tx_frames.specs.Values.{value_in, item_in}
+use Rattle.tx_frames.specs.Kinds.{wished}
 use Rattle.tx_frames.specs.Frames.{wish_of, says, open_of}
 
 -- the text that is put in front

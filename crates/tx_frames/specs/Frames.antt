@@ -1,10 +1,9 @@
 -- What open readings stand for.
-use Rattle.std.specs.Prelude.{ℕ, Bool, true, false, List, [], ◌∷◌, Option, Some, None}
+use Rattle.std.specs.Prelude.{Bool, true, false, List, ◌∷◌, Option, Some, None}
 use Rattle.tx_model.specs.declared.category.Cat.TheVariants as cat
 use Rattle.tx_private.specs.World.{World}
 use Rattle.tx_private.specs.Meanings as meaning
 use Rattle.tx_private.specs.Readings as private
-use Rattle.tx_private.specs.Moves.{move_in}
 use Rattle.tx_private.specs.Quantities.{byte_first, quantity_from}
 use Rattle.tx_private.specs.Lists.{balanced, left_brace, optional_equals, list_value, list_from}
 use Rattle.tx_private.specs.Expansions.{list_at, gives_tokens, the, the_of, number_text, roman_text, text_of_next, string_of, meaning_of_command}
@@ -15,8 +14,6 @@ use Rattle.tx_amounts.specs.declared.begun.Begun.{Begun}
 use Rattle.tx_amounts.specs.Scanning as scans
 use Rattle.tx_views.specs.Views.{View, all_viewed}
 use Rattle.tx_prims.specs.declared.primitives.Primitive.TheVariants as primitive
-use Rattle.tx_tok.specs.declared.tok.Tok.{Tok}
-use Rattle.tx_views.specs.declared.sense.Sense.{Sense}
 use Rattle.tx_views.specs.declared.sense.Sense.TheVariants as sense
 use Rattle.tx_views.specs.Meanings.{sense_in}
 use Rattle.tx_frames.specs.declared.reading.TextKind.{TextKind}

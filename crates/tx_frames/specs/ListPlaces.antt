@@ -1,14 +1,13 @@
 -- What lists are read from, and what \the gives of them.
 use Rattle.std.specs.Prelude.{Bool, List, [], ◌∷◌, if◌then◌else◌}
 use Rattle.tx_model.specs.declared.category.Cat.TheVariants as cat
-use Rattle.tx_num.specs.declared.quantities.Quant.TheVariants as quant
 use Rattle.tx_private.specs.Errors.{plain}
 use Rattle.tx_private.specs.Meanings as meaning
 use Rattle.tx_private.specs.World.{World, Command}
 use Rattle.tx_private.specs.Readings as private
 use Rattle.tx_private.specs.Texts.{tokens_of, quantity_text}
 use Rattle.tx_private.specs.Quantities.{begins_quantity, byte_first}
-use Rattle.tx_private.specs.Lists.{list_from, storing}
+use Rattle.tx_private.specs.Lists.{storing}
 use Rattle.tx_private.specs.Expansions.{list_at, gives_tokens, no_quantity}
 use Rattle.tx_views.specs.Views.{View}
 use Rattle.tx_views.specs.Places.{address_in}

@@ -1,5 +1,5 @@
 -- What comes of tokens for a text.
-use Rattle.std.specs.Prelude.{◌≡◌, ℕ, ◌∷◌, List, [], nat_lt, Bool, MatchBool, length}
+use Rattle.std.specs.Prelude.{ℕ, ◌∷◌, List, []}
 use Rattle.tx_private.specs.World.{World}
 use Rattle.tx_private.specs.Readings as private
 use Rattle.tx_private.specs.Lists.{balanced, taking_in, adding, closed_in, bounded}

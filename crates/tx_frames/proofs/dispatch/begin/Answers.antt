@@ -1,4 +1,4 @@
-use Rattle.std.proofs.Common.{◌≡◌, ◌∷◌, [], ◌++◌, ◌+◌, cond, true, false, refl, sym, ◌∙◌, ap, subst}
+use Rattle.std.proofs.Common.{sym, subst}
 use Rattle.tx_frames.specs.declared.reading.Reading.TheVariants as reading
 use Rattle.tx_frames.specs.declared.frame.Frame.TheVariants as frame
 use Rattle.tx_frames.specs.declared.answer.Answer.TheVariants as answer

@@ -1,5 +1,5 @@
-use Rattle.std.proofs.Common.{◌≡◌, ◌∷◌, [], ◌++◌, ◌+◌, cond, true, false, refl, sym, ◌∙◌, ap, subst}
-use Rattle.tx_frames.specs.Answers.{Suits, BecomesGiven}
+use Rattle.std.proofs.Common.{sym, subst}
+use Rattle.tx_frames.specs.Answers.{BecomesGiven}
 use Rattle.tx_frames.specs.Knowledge.{KnowsFrame}
 use Rattle.tx_frames.proofs.dispatch.feed.Goals as goal
 

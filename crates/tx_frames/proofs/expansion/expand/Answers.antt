@@ -1,11 +1,9 @@
-use Rattle.std.proofs.Common.{◌≡◌, ◌∷◌, [], ◌++◌, ◌+◌, cond, true, false, refl, sym, ◌∙◌, ap, subst}
+use Rattle.std.proofs.Common.{[], sym, subst}
 use Rattle.tx_private.specs.Expansions.{expansion}
 use Rattle.tx_views.specs.Meanings.{sense_in}
 use Rattle.tx_frames.specs.Values.{command_in}
 use Rattle.tx_frames.specs.Answers.{Becomes}
 use Rattle.tx_frames.specs.Opened.{expanding}
-use Rattle.tx_frames.specs.Knowledge.{KnowsSense}
-use Rattle.tx_frames.proofs.KnowledgeLemmas.{knows-none}
 use Rattle.tx_frames.proofs.expansion.expand.Goals as goal
 
 pub returns-in-Primitive-clause-becomes : goal.returns-in-Primitive-clause-becomes

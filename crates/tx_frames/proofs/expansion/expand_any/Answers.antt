@@ -1,4 +1,4 @@
-use Rattle.std.proofs.Common.{◌≡◌, ◌∷◌, [], ◌++◌, ◌+◌, ◌-◌, suc, arith, cond, true, false, refl, sym, ◌∙◌, ap, subst}
+use Rattle.std.proofs.Common.{[], sym, subst}
 use Rattle.tx_private.specs.Expansions.{expansion}
 use Rattle.tx_views.specs.declared.sense.Sense.TheVariants as sense
 use Rattle.tx_views.specs.Meanings.{sense_in}

@@ -1,4 +1,4 @@
-use Rattle.std.proofs.Common.{◌∷◌, [], ◌++◌, refl, sym, ◌∙◌, ap, subst}
+use Rattle.std.proofs.Common.{◌∷◌, [], sym, ◌∙◌, ap, subst}
 use Rattle.tx_views.specs.Meanings.{sense_in}
 use Rattle.tx_opens.specs.Opens.{given}
 use Rattle.tx_frames.specs.declared.frame.Frame.TheVariants as frame

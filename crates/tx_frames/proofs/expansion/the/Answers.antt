@@ -1,6 +1,5 @@
-use Rattle.std.proofs.Common.{◌∷◌, [], ◌++◌, refl, sym, ◌∙◌, ap, subst}
+use Rattle.std.proofs.Common.{[], refl, ◌∙◌, ap, subst}
 use Rattle.tx_views.specs.Meanings.{sense_in}
-use Rattle.tx_opens.specs.Opens.{SaysSame}
 use Rattle.tx_frames.specs.Values.{command_in}
 use Rattle.tx_frames.specs.ListPlaces.{the_by}
 use Rattle.tx_frames.specs.Opened.{the_before}

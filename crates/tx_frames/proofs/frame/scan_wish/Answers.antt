@@ -1,4 +1,4 @@
-use Rattle.std.proofs.Common.{◌∷◌, [], ◌++◌, refl, sym, ◌∙◌, ap, subst}
+use Rattle.std.proofs.Common.{sym, ◌∙◌}
 use Rattle.tx_amounts.specs.Scanning.{wish_of}
 use Rattle.tx_frames.proofs.ScanLemmas.{wish-begun}
 use Rattle.tx_frames.proofs.frame.scan_wish.Goals as goal

@@ -1,4 +1,4 @@
-use Rattle.std.proofs.Common.{◌∷◌, [], ◌++◌, refl, sym, ◌∙◌, ap, subst}
+use Rattle.std.proofs.Common.{◌∷◌, [], refl, ◌∙◌, ap, subst}
 use Rattle.tx_views.specs.Meanings.{sense_in}
 use Rattle.tx_frames.specs.ListPlaces.{list_by}
 use Rattle.tx_frames.specs.Opened.{behind_sense, braced_sense}

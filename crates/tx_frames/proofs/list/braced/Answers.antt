@@ -1,4 +1,4 @@
-use Rattle.std.proofs.Common.{◌∷◌, [], ◌++◌, refl, sym, ◌∙◌, ap, subst}
+use Rattle.std.proofs.Common.{[], sym, subst}
 use Rattle.tx_views.specs.Meanings.{sense_in}
 use Rattle.tx_frames.specs.ListPlaces.{braced}
 use Rattle.tx_frames.specs.Opened.{braced_sense}

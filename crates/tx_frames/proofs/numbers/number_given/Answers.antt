@@ -1,4 +1,4 @@
-use Rattle.std.proofs.Common.{◌∷◌, [], ◌++◌, refl, sym, ◌∙◌, ap, subst}
+use Rattle.std.proofs.Common.{◌∷◌, sym, subst}
 use Rattle.tx_private.specs.Quantities.{byte_first}
 use Rattle.tx_assign.specs.Refusals.{led, number_of}
 use Rattle.std.specs.Prelude.{◌≡◌}

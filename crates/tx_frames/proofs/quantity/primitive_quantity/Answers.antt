@@ -1,4 +1,4 @@
-use Rattle.std.proofs.Common.{◌∷◌, [], ◌++◌, refl, sym, ◌∙◌, ap, subst}
+use Rattle.std.proofs.Common.{sym, subst}
 use Rattle.tx_private.specs.Readings as private
 use Rattle.tx_views.specs.declared.sense.Sense.TheVariants as sense
 use Rattle.tx_frames.specs.Values.{command_in}

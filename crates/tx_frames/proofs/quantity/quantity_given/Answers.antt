@@ -1,8 +1,8 @@
-use Rattle.std.proofs.Common.{◌∷◌, [], ◌++◌, refl, sym, ◌∙◌, ap, subst}
+use Rattle.std.proofs.Common.{◌∷◌, [], sym, ◌∙◌, ap, subst}
 use Rattle.tx_private.specs.Readings as private
 use Rattle.tx_private.specs.Errors.{plain}
 use Rattle.tx_private.specs.Meanings as meaning
-use Rattle.tx_private.specs.Quantities.{byte_first, gives, register_of, codes_of}
+use Rattle.tx_private.specs.Quantities.{byte_first, gives, codes_of}
 use Rattle.tx_opens.specs.Opens.{given}
 use Rattle.tx_assign.specs.Assigned.{if_register, if_codes}
 use Rattle.tx_frames.specs.declared.frame.Frame.TheVariants as frame

@@ -1,6 +1,5 @@
-use Rattle.std.proofs.Common.{◌∷◌, [], ◌++◌, refl, sym, ◌∙◌, ap, subst}
+use Rattle.std.proofs.Common.{refl, ◌∙◌, subst}
 use Rattle.tx_amounts.specs.Scanning.{Tells, wish_of}
-use Rattle.tx_frames.specs.declared.frame.Frame.TheVariants as frame
 use Rattle.tx_private.specs.World.{put_in_front}
 use Rattle.tx_views.specs.Views.{all_viewed}
 use Rattle.tx_frames.proofs.ScanLemmas.{wish-same}

@@ -1,4 +1,4 @@
-use Rattle.std.proofs.Common.{◌∷◌, [], ◌++◌, refl, sym, ◌∙◌, ap, subst}
+use Rattle.std.proofs.Common.{[]}
 use Rattle.tx_private.specs.Readings.{Given}
 use Rattle.tx_frames.proofs.ScanLemmas.{tells-same}
 use Rattle.tx_amounts.specs.Names.{tokens_back}

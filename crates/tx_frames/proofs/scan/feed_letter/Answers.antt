@@ -1,4 +1,3 @@
-use Rattle.std.proofs.Common.{◌∷◌, [], ◌++◌, refl, sym, ◌∙◌, ap, subst}
 use Rattle.tx_amounts.specs.Scanning.{plain_item}
 use Rattle.std.specs.Option.{option_to_list}
 use Rattle.tx_amounts.specs.Names.{tokens_back}

@@ -1,4 +1,4 @@
-use Rattle.std.proofs.Common.{◌∷◌, [], ◌++◌, refl, sym, ◌∙◌, ap, subst}
+use Rattle.std.proofs.Common.{[]}
 use Rattle.tx_amounts.specs.Scanning.{quantity_item}
 use Rattle.std.proofs.Common.{None}
 use Rattle.tx_amounts.specs.Names.{tokens_back}

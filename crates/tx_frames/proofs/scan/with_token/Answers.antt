@@ -1,4 +1,4 @@
-use Rattle.std.proofs.Common.{◌∷◌, [], ◌++◌, refl, sym, ◌∙◌, ap, subst}
+use Rattle.std.proofs.Common.{◌∷◌, []}
 use Rattle.tx_amounts.specs.Scanning.{token_item}
 use Rattle.tx_amounts.specs.Names.{tokens_back}
 use Rattle.tx_frames.proofs.KnowledgeLemmas.{tokens-after, begun-token}

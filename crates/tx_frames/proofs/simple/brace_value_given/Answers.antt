@@ -1,12 +1,7 @@
-use Rattle.std.proofs.Common.{◌∷◌, [], ◌++◌, refl, sym, ◌∙◌, ap, subst}
-use Rattle.tx_private.specs.Readings as private
-use Rattle.tx_views.specs.Views.{View}
+use Rattle.std.proofs.Common.{sym, subst}
 use Rattle.tx_frames.specs.declared.frame.Frame.TheVariants as frame
-use Rattle.tx_frames.specs.declared.frame.ListStage.TheVariants as list
-use Rattle.tx_frames.specs.declared.frame.Stage.TheVariants as stage
 use Rattle.tx_frames.specs.declared.value.Item.TheVariants as item
-use Rattle.tx_frames.specs.declared.value.Value.TheVariants as value
-use Rattle.tx_frames.specs.Answers.{Becomes, BecomesGiven, BecomesBegun}
+use Rattle.tx_frames.specs.Answers.{BecomesGiven}
 use Rattle.tx_frames.proofs.simple.brace_value_given.Goals as goal
 
 pub returns-in-Command-clause-becomes : goal.returns-in-Command-clause-becomes

@@ -1,4 +1,4 @@
-use Rattle.std.proofs.Common.{◌∷◌, [], ◌++◌, refl, sym, ◌∙◌, ap, subst}
+use Rattle.std.proofs.Common.{sym, subst}
 use Rattle.std.specs.Prelude.{◌≡◌}
 use Rattle.tx_private.specs.Lists.{is_skipped}
 use Rattle.tx_views.specs.Meanings.{sense_in}

@@ -1,4 +1,4 @@
-use Rattle.std.proofs.Common.{◌≡◌, ◌∷◌, [], ◌++◌, ◌+◌, cond, true, false, refl, sym, ◌∙◌, ap, subst}
+use Rattle.std.proofs.Common.{◌∷◌, [], ◌++◌, ◌+◌, refl, sym, ◌∙◌}
 use Rattle.tx_frames.specs.Texts.{as_open, adding_on, closing_on, goes_on}
 use Rattle.tx_frames.proofs.FrameLemmas.{becomes-same}
 use Rattle.tx_frames.proofs.TextLemmas.{adds-left, adds-right, adds-other}

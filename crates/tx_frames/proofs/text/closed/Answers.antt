@@ -1,4 +1,4 @@
-use Rattle.std.proofs.Common.{◌≡◌, ◌∷◌, [], ◌++◌, ◌+◌, ◌-◌, suc, arith, cond, true, false, refl, sym, ◌∙◌, ap, subst}
+use Rattle.std.proofs.Common.{◌≡◌, ◌∷◌, [], ◌++◌, ◌-◌, suc, arith, refl}
 use Rattle.tx_frames.specs.Texts.{as_open, closing_on, goes_on}
 use Rattle.tx_frames.proofs.FrameLemmas.{becomes-same}
 use Rattle.tx_frames.proofs.TextLemmas.{closes-group}

@@ -1,4 +1,4 @@
-use Rattle.std.proofs.Common.{◌≡◌, ◌∷◌, [], ◌++◌, ◌+◌, cond, true, false, refl, sym, ◌∙◌, ap, subst}
+use Rattle.std.proofs.Common.{◌∷◌, [], cond, refl, sym, ◌∙◌, ap}
 use Rattle.tx_private.specs.Errors.{plain}
 use Rattle.tx_private.specs.Readings.{Bad}
 use Rattle.tx_frames.specs.Texts.{as_open, taking_on, adding_on}

@@ -1,4 +1,4 @@
-use Rattle.std.proofs.Common.{◌≡◌, ◌∷◌, [], ◌++◌, ◌+◌, cond, true, false, refl, sym, ◌∙◌, ap, subst}
+use Rattle.std.proofs.Common.{◌∷◌, [], ◌++◌, refl, sym, subst}
 use Rattle.tx_frames.specs.declared.frame.Frame.TheVariants as frame
 use Rattle.tx_frames.specs.declared.value.Item.TheVariants as item
 use Rattle.tx_frames.specs.declared.value.Value.TheVariants as value

@@ -1,4 +1,4 @@
-use Rattle.std.proofs.Common.{◌≡◌, ◌∷◌, [], ◌++◌, ◌+◌, cond, true, false, refl, sym, ◌∙◌, ap, subst}
+use Rattle.std.proofs.Common.{◌∷◌, [], ◌++◌, sym, ◌∙◌, ap, subst}
 use Rattle.tx_frames.specs.Texts.{GoesOnWith}
 use Rattle.tx_frames.specs.Knowledge.{KnowsTokens}
 use Rattle.tx_frames.proofs.KnowledgeLemmas.{knows-append}

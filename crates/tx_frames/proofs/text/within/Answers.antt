@@ -1,4 +1,4 @@
-use Rattle.std.proofs.Common.{◌≡◌, ◌∷◌, [], ◌++◌, ◌+◌, ◌-◌, suc, arith, cond, true, false, refl, sym, ◌∙◌, ap, subst}
+use Rattle.std.proofs.Common.{◌∷◌, [], ◌++◌, subst}
 use Rattle.tx_frames.specs.Texts.{GoesOnWith}
 use Rattle.tx_frames.proofs.text.within.Goals as goal
 
