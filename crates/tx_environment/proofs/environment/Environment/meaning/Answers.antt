@@ -1,6 +1,6 @@
 use Rattle.std.proofs.Common.{ap, sym, subst, ◌∙◌}
 use Rattle.tx_eqtb.specs.Meanings.{meanings}
-use Rattle.tx_eqtb.specs.Tables.{now, before}
+use Rattle.tx_eqtb.specs.Tables.{now}
 use Rattle.tx_save.specs.Saves.{groups, outside, all_held}
 use Rattle.tx_views.specs.Places.{address_in, addr_of}
 use Rattle.tx_views.specs.Meanings.{meaning_in}
