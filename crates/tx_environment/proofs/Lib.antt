@@ -2,3 +2,5 @@ pub mod PlaceLemmas
 pub mod LevelLemmas
 pub mod CategoryLemmas
 pub mod StepLemmas
+pub mod HoldingLemmas
+pub mod ContentLemmas

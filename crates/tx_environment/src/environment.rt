@@ -19,6 +19,7 @@ ghost use Rattle.tx_environment.specs.States.{environment};
 ghost use Rattle.tx_environment.specs.Soundness.{IsSound, IsClosing, IsPresent, IsFirst};
 ghost use Rattle.tx_environment.specs.Changes.{HasAround, IsLeft, IsGivenUp};
 ghost use Rattle.tx_environment.specs.Steps.{IsOpen, IsOutermost, innermost, alone, keeping_for_end, Closes, Leaves, IsFewer, entries_saved, held};
+ghost use Rattle.tx_environment.specs.Holding.{pooled_in, pooled_of, pooled_of_sense, HasNoPooled, IsHeldIn};
 
 use crate::categories::{categories_of, category_of, give, give_around};
 use crate::values::{integer_of, is_math, list_of, quantity_of};
@@ -97,9 +98,11 @@ impl Environment {
     }
 
     /// What a token means now, as a value of its own. A macro's parameter, and what stands between a macro's
-    /// parameter text and its body, mean nothing. *TeX: The Program*, part 24.
+    /// parameter text and its body, mean nothing. A pooled list in it is one that is held, where the frozen table has
+    /// none. *TeX: The Program*, part 24.
     pub fn sense(&self, frozen: &Frozen<BoxNode>, token: Tok) -> Sense
-        ensures { (view : View) → IsView view → sense_in view result ≡ meaning_of (environment view (meanings frozen.now) self.now) (viewed view token) }
+        ensures means { (view : View) → IsView view → sense_in view result ≡ meaning_of (environment view (meanings frozen.now) self.now) (viewed view token) }
+        ensures holds { HasNoPooled (meanings frozen.now) → IsHeldIn (held self.now) (pooled_of_sense result) }
     {
         match token {
             Tok::Char(cat, byte) => Sense::Char(cat, byte),
@@ -132,17 +135,19 @@ impl Environment {
         quantity_of(self.meaning(frozen, place), is_math(place))
     }
 
-    /// The list of tokens that a place means. What is no list counts as the one without tokens. *TeX: The Program*,
-    /// section 415.
+    /// The list of tokens that a place means. What is no list counts as the one without tokens. A pooled list is one
+    /// that is held, where the frozen table has none. *TeX: The Program*, section 415.
     pub fn list(&self, frozen: &Frozen<BoxNode>, place: Place) -> ListRef
-        ensures { (view : View) → IsView view → list_in view result ≡ tokens_of (present (environment view (meanings frozen.now) self.now) (address_in view place)) }
+        ensures means { (view : View) → IsView view → list_in view result ≡ tokens_of (present (environment view (meanings frozen.now) self.now) (address_in view place)) }
+        ensures holds { HasNoPooled (meanings frozen.now) → IsHeldIn (held self.now) (pooled_in result) }
     {
         list_of(self.meaning(frozen, place))
     }
 
     /// What a place means.
     fn meaning<'a>(&'a self, frozen: &'a Frozen<BoxNode>, place: Place) -> &'a Meaning<BoxNode>
-        ensures { (view : View) → IsView view → meaning_in view result.now ≡ present (environment view (meanings frozen.now) self.now) (address_in view place) }
+        ensures means { (view : View) → IsView view → meaning_in view result.now ≡ present (environment view (meanings frozen.now) self.now) (address_in view place) }
+        ensures holds { HasNoPooled (meanings frozen.now) → IsHeldIn (held self.now) (pooled_of result.now) }
     {
         self.over.get(frozen, place.addr())
     }

@@ -1,12 +1,13 @@
 //! What meanings are as values.
 
-ghost use Rattle.std.specs.Prelude.{◌≡◌};
+ghost use Rattle.std.specs.Prelude.{◌≡◌, IfSome};
 ghost use Rattle.tx_private.specs.Environment.{integer_in};
 ghost use Rattle.tx_private.specs.Expansions.{list_in as tokens_of};
 ghost use Rattle.tx_private.specs.Quantities.{is_math as is_math_address, is_math_parameter as is_measured_in_mu, quantity_in};
 ghost use Rattle.tx_views.specs.Views.{View, IsView, list_in};
 ghost use Rattle.tx_views.specs.Places.{address_in};
 ghost use Rattle.tx_views.specs.Meanings.{meaning_in};
+ghost use Rattle.tx_environment.specs.Holding.{pooled_in, pooled_of};
 
 use tx_eqtb::{Meaning, RegKind};
 use tx_node::BoxNode;
@@ -39,7 +40,8 @@ pub(crate) fn quantity_of(meaning: &Meaning<BoxNode>, math: bool) -> Quant
 
 /// The list that a meaning is, and that without tokens of anything else.
 pub(crate) fn list_of(meaning: &Meaning<BoxNode>) -> ListRef
-    ensures { (view : View) → IsView view → list_in view result ≡ tokens_of (meaning_in view meaning.now) }
+    ensures means { (view : View) → IsView view → list_in view result ≡ tokens_of (meaning_in view meaning.now) }
+    ensures same { IfSome (pooled_in result) (λ id. pooled_of meaning.now ≡ Some id) }
 {
     match meaning {
         Meaning::List(list) => *list,
