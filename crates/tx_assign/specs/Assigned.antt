@@ -1,5 +1,7 @@
 -- Assignments, as the definitions have them.
 use Rattle.std.specs.Prelude.{Bool, true, false, ◌||◌, List, Option, Some, None}
+use Rattle.tx_tok.specs.declared.tok.Tok.{Tok}
+use Rattle.tx_tok.specs.declared.tok.Tok.TheVariants as tok
 use Rattle.tx_eqtb.specs.declared.meaning.RegKind.{RegKind}
 use Rattle.tx_private.specs.Errors.{plain}
 use Rattle.tx_private.specs.Meanings.{Register, CodeTable, Code, Register'}
@@ -9,6 +11,8 @@ use Rattle.tx_private.specs.Assignments as private
 use Rattle.tx_private.specs.Assignments.{named, defined, let_to, future_let, stands_for, byte_or, math_character}
 use Rattle.tx_private.specs.Arithmetic.{arithmetic}
 use Rattle.tx_views.specs.declared.place.CodeTable as tables
+use Rattle.tx_views.specs.declared.place.Place.{Place}
+use Rattle.tx_views.specs.declared.place.Place.TheVariants as place
 use Rattle.tx_views.specs.Places.{register_in, table_in}
 use Rattle.tx_assign.specs.Operations.{operation_in}
 use Rattle.tx_assign.specs.declared.prefixes.Prefixes.{Prefixes}
@@ -22,6 +26,12 @@ prefixes_in p = record { global = p.global; long = p.long; protected = p.protect
 -- the prefixes of a definition, which may be global by itself
 abbrev pub made_global : Bool → private.Prefixes → private.Prefixes
 made_global global p = record p { global = global || p.global }
+
+-- the place of a name or of an active character
+abbrev pub place_of : Tok → Option Place
+place_of (tok.Name number) = Some (place.Name number)
+place_of (tok.Active byte) = Some (place.Active byte)
+place_of _ = None
 
 -- a name that stands for a character's code, or for a math code
 abbrev pub stands_for_code : private.Prefixes → Bool → List Item → World → Move

@@ -11,7 +11,7 @@ ghost use Rattle.tx_private.specs.Assignments.{name_address};
 ghost use Rattle.tx_private.specs.Controls.{names};
 ghost use Rattle.tx_views.specs.Views.{View, viewed};
 ghost use Rattle.tx_views.specs.Places.{address_in};
-ghost use Rattle.tx_assign.specs.Assigned.{names_by, if_register, if_codes};
+ghost use Rattle.tx_assign.specs.Assigned.{names_by, if_register, if_codes, place_of};
 
 use crate::operation::Operation;
 use tx_eqtb::RegKind;
@@ -47,7 +47,8 @@ pub enum Defined {
 /// The place of a name or of an active character. None comes exactly where a token is neither.
 /// *TeX: The Program*, section 1215.
 pub fn name_place(token: Tok) -> Option<Place>
-    ensures { (view : View) → option_map (address_in view) result ≡ name_address (viewed view token) }
+    ensures address { (view : View) → option_map (address_in view) result ≡ name_address (viewed view token) }
+    ensures place { result ≡ place_of token }
 {
     match token {
         Tok::Name(number) => Some(Place::Name(number)),

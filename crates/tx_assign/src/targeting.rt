@@ -1,6 +1,7 @@
 //! The targets of arithmetic, by what a token means.
 
-ghost use Rattle.tx_assign.specs.Operations.{IsTargetOf, IsNoCode};
+ghost use Rattle.std.specs.Prelude.{◌≡◌};
+ghost use Rattle.tx_assign.specs.Operations.{IsTargetOf, IsNoCode, target_of};
 
 use crate::targets::Target;
 use tx_eqtb::RegKind;
@@ -11,6 +12,7 @@ use tx_views::{Place, Sense};
 /// parameter that is an integer, a dimension or glue, and else nothing. *TeX: The Program*, section 1237.
 pub fn target(sense: Sense) -> Target
     ensures target { IsTargetOf sense result }
+    ensures place { result ≡ target_of sense }
     ensures no_code { IsNoCode result }
 {
     match sense {
@@ -23,6 +25,7 @@ pub fn target(sense: Sense) -> Target
 /// The same of a register.
 fn register_target(kind: RegKind, no: u16) -> Target
     ensures target { IsTargetOf (Sense.Register kind no) result }
+    ensures place { result ≡ target_of (Sense.Register kind no) }
     ensures no_code { IsNoCode result }
 {
     match kind {
@@ -36,6 +39,7 @@ fn register_target(kind: RegKind, no: u16) -> Target
 /// The same of a primitive.
 fn primitive_target(primitive: Primitive) -> Target
     ensures target { IsTargetOf (Sense.Primitive primitive) result }
+    ensures place { result ≡ target_of (Sense.Primitive primitive) }
     ensures no_code { IsNoCode result }
 {
     match primitive {
@@ -50,6 +54,7 @@ fn primitive_target(primitive: Primitive) -> Target
 /// The same of an assignment, behind which the number of a register stands.
 fn numbered_target(assignment: Assignment) -> Target
     ensures target { IsTargetOf (Sense.Primitive (Primitive.Assignment assignment)) result }
+    ensures place { result ≡ target_of (Sense.Primitive (Primitive.Assignment assignment)) }
     ensures no_code { IsNoCode result }
 {
     match assignment {

@@ -3,3 +3,4 @@ pub mod Wishes
 pub mod Commands
 pub mod Outcomes
 pub mod Stages
+pub mod Knowledge

@@ -3,6 +3,7 @@
 ghost use Rattle.tx_private.specs.World.{World};
 ghost use Rattle.tx_views.specs.Views.{View};
 ghost use Rattle.tx_commands.specs.Outcomes.{BecomesGiven};
+ghost use Rattle.tx_commands.specs.Knowledge.{KnowsGiven};
 
 use crate::command::{After, Command};
 use crate::effect::Effect;
@@ -15,7 +16,8 @@ use tx_views::Sense;
 
 /// What keeps a token, with an item more.
 pub(crate) fn after_given(alloc: Global, after: After, item: Item) -> Outcome
-    ensures { (view : View) (w : World) → BecomesGiven view (Command.After after) item w result }
+    ensures becomes { (view : View) (w : World) → BecomesGiven view (Command.After after) item w result }
+    ensures knows { KnowsGiven (Command.After after) item result }
 {
     match after {
         After::Group => after_group_given(alloc, item),
@@ -25,7 +27,8 @@ pub(crate) fn after_given(alloc: Global, after: After, item: Item) -> Outcome
 
 /// `\aftergroup`, with an item more. At the end of the text it does nothing.
 fn after_group_given(alloc: Global, item: Item) -> Outcome
-    ensures { (view : View) (w : World) → BecomesGiven view (Command.After After.Group) item w result }
+    ensures becomes { (view : View) (w : World) → BecomesGiven view (Command.After After.Group) item w result }
+    ensures knows { KnowsGiven (Command.After After.Group) item result }
 {
     match &item {
         Item::Token(token, _) => Outcome::Does(Effect::AfterGroup(*token)),
@@ -35,7 +38,8 @@ fn after_group_given(alloc: Global, item: Item) -> Outcome
 
 /// `\afterassignment`, with an item more. At the end of the text it does nothing.
 fn after_assignment_given(alloc: Global, item: Item) -> Outcome
-    ensures { (view : View) (w : World) → BecomesGiven view (Command.After After.Assignment) item w result }
+    ensures becomes { (view : View) (w : World) → BecomesGiven view (Command.After After.Assignment) item w result }
+    ensures knows { KnowsGiven (Command.After After.Assignment) item result }
 {
     match &item {
         Item::Token(token, _) => Outcome::Does(Effect::AfterAssignment(*token)),
@@ -45,7 +49,8 @@ fn after_assignment_given(alloc: Global, item: Item) -> Outcome
 
 /// `\ignorespaces`, with an item more.
 pub(crate) fn ignore_spaces_given(alloc: Global, item: Item) -> Outcome
-    ensures { (view : View) (w : World) → BecomesGiven view Command.IgnoreSpaces item w result }
+    ensures becomes { (view : View) (w : World) → BecomesGiven view Command.IgnoreSpaces item w result }
+    ensures knows { KnowsGiven Command.IgnoreSpaces item result }
 {
     match &item {
         Item::Expanded(token, sense) => ignore_spaces(alloc, *token, sense),
@@ -55,7 +60,8 @@ pub(crate) fn ignore_spaces_given(alloc: Global, item: Item) -> Outcome
 
 /// `\ignorespaces`, with a token that can't be expanded.
 fn ignore_spaces(alloc: Global, token: Tok, sense: &Sense) -> Outcome
-    ensures { (view : View) (w : World) → BecomesGiven view Command.IgnoreSpaces (Item.Expanded token sense.now) w result }
+    ensures becomes { (view : View) (w : World) → BecomesGiven view Command.IgnoreSpaces (Item.Expanded token sense.now) w result }
+    ensures knows { KnowsGiven Command.IgnoreSpaces (Item.Expanded token sense.now) result }
 {
     if is_space(sense) {
         return Outcome::Goes(Command::IgnoreSpaces);

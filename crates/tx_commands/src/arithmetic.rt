@@ -10,7 +10,9 @@ ghost use Rattle.tx_views.specs.Meanings.{sense_in};
 ghost use Rattle.tx_assign.specs.Assigned.{prefixes_in};
 ghost use Rattle.tx_assign.specs.Operations.{operation_in};
 ghost use Rattle.tx_frames.specs.Kinds.{kind_in};
+ghost use Rattle.tx_frames.specs.Knowledge.{Known, KnowsPlace, KnowsReading, KnowsSense};
 ghost use Rattle.tx_commands.specs.Outcomes.{BecomesGiven, Makes};
+ghost use Rattle.tx_commands.specs.Knowledge.{KnowsOutcome, KnowsGiven};
 
 use crate::assign::value_reading;
 use crate::command::{Arithmetic, Command};
@@ -30,7 +32,8 @@ pub(crate) fn arithmetic_given(
     stage: Arithmetic,
     item: Item,
 ) -> Outcome
-    ensures { (view : View) (w : World) → BecomesGiven view (Command.Arithmetic prefixes operation stage) item w result }
+    ensures becomes { (view : View) (w : World) → BecomesGiven view (Command.Arithmetic prefixes operation stage) item w result }
+    ensures knows { KnowsGiven (Command.Arithmetic prefixes operation stage) item result }
 {
     match stage {
         Arithmetic::Target => target_given(prefixes, operation, item),
@@ -44,7 +47,8 @@ pub(crate) fn arithmetic_given(
 
 /// Arithmetic, with the item that it works on.
 fn target_given(prefixes: Prefixes, operation: Operation, item: Item) -> Outcome
-    ensures { (view : View) (w : World) → BecomesGiven view (Command.Arithmetic prefixes operation Arithmetic.Target) item w result }
+    ensures becomes { (view : View) (w : World) → BecomesGiven view (Command.Arithmetic prefixes operation Arithmetic.Target) item w result }
+    ensures knows { KnowsGiven (Command.Arithmetic prefixes operation Arithmetic.Target) item result }
 {
     match &item {
         Item::Expanded(_, sense) => in_target(prefixes, operation, sense),
@@ -54,7 +58,8 @@ fn target_given(prefixes: Prefixes, operation: Operation, item: Item) -> Outcome
 
 /// Arithmetic in what means this.
 fn in_target(prefixes: Prefixes, operation: Operation, sense: &Sense) -> Outcome
-    ensures { (view : View) (w : World) → Makes view (target_in (prefixes_in prefixes) (operation_in operation) (sense_in view sense.now)) w result }
+    ensures becomes { (view : View) (w : World) → Makes view (target_in (prefixes_in prefixes) (operation_in operation) (sense_in view sense.now)) w result }
+    ensures knows { (known : Known) → KnowsSense known sense.now → KnowsOutcome known result }
 {
     match target(*sense) {
         Target::Place(place) => {
@@ -69,7 +74,8 @@ fn in_target(prefixes: Prefixes, operation: Operation, sense: &Sense) -> Outcome
 
 /// Arithmetic in a register, with the item that is its number.
 fn register_given(prefixes: Prefixes, operation: Operation, kind: RegKind, item: Item) -> Outcome
-    ensures { (view : View) (w : World) → BecomesGiven view (Command.Arithmetic prefixes operation (Arithmetic.Register kind)) item w result }
+    ensures becomes { (view : View) (w : World) → BecomesGiven view (Command.Arithmetic prefixes operation (Arithmetic.Register kind)) item w result }
+    ensures knows { KnowsGiven (Command.Arithmetic prefixes operation (Arithmetic.Register kind)) item result }
 {
     match numbered(ByteError::Register, &item) {
         Ok(no) => Outcome::Goes(Command::Arithmetic(
@@ -83,7 +89,8 @@ fn register_given(prefixes: Prefixes, operation: Operation, kind: RegKind, item:
 
 /// Arithmetic in a place, with the keyword `by` or none.
 fn by_given(prefixes: Prefixes, operation: Operation, place: Place, item: Item) -> Outcome
-    ensures { (view : View) (w : World) → BecomesGiven view (Command.Arithmetic prefixes operation (Arithmetic.By place)) item w result }
+    ensures becomes { (view : View) (w : World) → BecomesGiven view (Command.Arithmetic prefixes operation (Arithmetic.By place)) item w result }
+    ensures knows { KnowsGiven (Command.Arithmetic prefixes operation (Arithmetic.By place)) item result }
 {
     match &item {
         Item::Word(word) => operand_due(prefixes, operation, place, *word),
@@ -93,7 +100,8 @@ fn by_given(prefixes: Prefixes, operation: Operation, place: Place, item: Item) 
 
 /// Arithmetic in a place, whose operand is due.
 fn operand_due(prefixes: Prefixes, operation: Operation, place: Place, word: u8) -> Outcome
-    ensures { (view : View) (w : World) → Makes view (λ items v. computes (prefixes_in prefixes) (operation_in operation) (address_in view place) (Given (Word word) ∷ items) v) w result }
+    ensures becomes { (view : View) (w : World) → Makes view (λ items v. computes (prefixes_in prefixes) (operation_in operation) (address_in view place) (Given (Word word) ∷ items) v) w result }
+    ensures knows { (known : Known) → KnowsPlace known place → KnowsOutcome known result }
 {
     Outcome::Goes(Command::Arithmetic(
         prefixes,
@@ -104,7 +112,8 @@ fn operand_due(prefixes: Prefixes, operation: Operation, place: Place, word: u8)
 
 /// How the operand is read.
 fn operand_reading(operation: Operation, place: Place) -> Reading
-    ensures { (view : View) → kind_in view result ≡ operand (operation_in operation) (address_in view place) }
+    ensures kind { (view : View) → kind_in view result ≡ operand (operation_in operation) (address_in view place) }
+    ensures knows { (known : Known) → KnowsReading known result }
 {
     match operation {
         Operation::Advance => value_reading(place),
@@ -121,7 +130,8 @@ fn operand_given(
     reading: Reading,
     item: Item,
 ) -> Outcome
-    ensures { (view : View) (w : World) → BecomesGiven view (Command.Arithmetic prefixes operation (Arithmetic.Operand place word reading)) item w result }
+    ensures becomes { (view : View) (w : World) → BecomesGiven view (Command.Arithmetic prefixes operation (Arithmetic.Operand place word reading)) item w result }
+    ensures knows { KnowsGiven (Command.Arithmetic prefixes operation (Arithmetic.Operand place word reading)) item result }
 {
     let _ = (word, reading);
     match &item {

@@ -8,7 +8,9 @@ ghost use Rattle.tx_views.specs.Views.{View};
 ghost use Rattle.tx_views.specs.Places.{address_in};
 ghost use Rattle.tx_assign.specs.Assigned.{prefixes_in};
 ghost use Rattle.tx_frames.specs.Kinds.{kind_in};
+ghost use Rattle.tx_frames.specs.Knowledge.{Known, KnowsPlace, KnowsReading};
 ghost use Rattle.tx_commands.specs.Outcomes.{BecomesGiven, Makes};
+ghost use Rattle.tx_commands.specs.Knowledge.{KnowsOutcome, KnowsGiven};
 
 use crate::command::{Assign, Command};
 use crate::effect::Effect;
@@ -23,14 +25,16 @@ use tx_views::{CodeTable, Place};
 
 /// An assignment to a place, of which nothing more was taken.
 pub(crate) fn at_place(prefixes: Prefixes, place: Place) -> Outcome
-    ensures { (view : View) (w : World) → Makes view (assign_at (prefixes_in prefixes) (address_in view place)) w result }
+    ensures becomes { (view : View) (w : World) → Makes view (assign_at (prefixes_in prefixes) (address_in view place)) w result }
+    ensures knows { (known : Known) → KnowsPlace known place → KnowsOutcome known result }
 {
     Outcome::Goes(Command::Assign(prefixes, Assign::Equals(place)))
 }
 
 /// An assignment to a place, with an item more.
 pub(crate) fn assign_given(prefixes: Prefixes, assign: Assign, item: Item) -> Outcome
-    ensures { (view : View) (w : World) → BecomesGiven view (Command.Assign prefixes assign) item w result }
+    ensures becomes { (view : View) (w : World) → BecomesGiven view (Command.Assign prefixes assign) item w result }
+    ensures knows { KnowsGiven (Command.Assign prefixes assign) item result }
 {
     match assign {
         Assign::Register(kind) => register_given(prefixes, kind, item),
@@ -42,7 +46,8 @@ pub(crate) fn assign_given(prefixes: Prefixes, assign: Assign, item: Item) -> Ou
 
 /// An assignment to a register, with the item that is its number.
 fn register_given(prefixes: Prefixes, kind: RegKind, item: Item) -> Outcome
-    ensures { (view : View) (w : World) → BecomesGiven view (Command.Assign prefixes (Assign.Register kind)) item w result }
+    ensures becomes { (view : View) (w : World) → BecomesGiven view (Command.Assign prefixes (Assign.Register kind)) item w result }
+    ensures knows { KnowsGiven (Command.Assign prefixes (Assign.Register kind)) item result }
 {
     match numbered(ByteError::Register, &item) {
         Ok(no) => Outcome::Goes(Command::Assign(
@@ -55,7 +60,8 @@ fn register_given(prefixes: Prefixes, kind: RegKind, item: Item) -> Outcome
 
 /// An assignment to a code, with the item that is its byte.
 fn code_given(prefixes: Prefixes, table: CodeTable, item: Item) -> Outcome
-    ensures { (view : View) (w : World) → BecomesGiven view (Command.Assign prefixes (Assign.Code table)) item w result }
+    ensures becomes { (view : View) (w : World) → BecomesGiven view (Command.Assign prefixes (Assign.Code table)) item w result }
+    ensures knows { KnowsGiven (Command.Assign prefixes (Assign.Code table)) item result }
 {
     match numbered(ByteError::Character, &item) {
         Ok(byte) => Outcome::Goes(Command::Assign(
@@ -68,7 +74,8 @@ fn code_given(prefixes: Prefixes, table: CodeTable, item: Item) -> Outcome
 
 /// An assignment to a place, with its equals sign or none.
 fn equals_given(prefixes: Prefixes, place: Place, item: Item) -> Outcome
-    ensures { (view : View) (w : World) → BecomesGiven view (Command.Assign prefixes (Assign.Equals place)) item w result }
+    ensures becomes { (view : View) (w : World) → BecomesGiven view (Command.Assign prefixes (Assign.Equals place)) item w result }
+    ensures knows { KnowsGiven (Command.Assign prefixes (Assign.Equals place)) item result }
 {
     match &item {
         Item::Nothing => value_due(prefixes, place),
@@ -78,14 +85,16 @@ fn equals_given(prefixes: Prefixes, place: Place, item: Item) -> Outcome
 
 /// An assignment to a place, whose value is due.
 fn value_due(prefixes: Prefixes, place: Place) -> Outcome
-    ensures { (view : View) (w : World) → Makes view (λ items v. assign_at (prefixes_in prefixes) (address_in view place) (Given Nothing ∷ items) v) w result }
+    ensures becomes { (view : View) (w : World) → Makes view (λ items v. assign_at (prefixes_in prefixes) (address_in view place) (Given Nothing ∷ items) v) w result }
+    ensures knows { (known : Known) → KnowsPlace known place → KnowsOutcome known result }
 {
     Outcome::Goes(Command::Assign(prefixes, Assign::Value(place, value_reading(place))))
 }
 
 /// How the value of a place is read.
 pub(crate) fn value_reading(place: Place) -> Reading
-    ensures { (view : View) → kind_in view result ≡ kind_at (address_in view place) }
+    ensures kind { (view : View) → kind_in view result ≡ kind_at (address_in view place) }
+    ensures knows { (known : Known) → KnowsReading known result }
 {
     match value_kind(place) {
         ValueKind::Number => Reading::Number,
@@ -97,7 +106,8 @@ pub(crate) fn value_reading(place: Place) -> Reading
 
 /// An assignment to a place, with the item that is the value.
 fn value_given(prefixes: Prefixes, place: Place, reading: Reading, item: Item) -> Outcome
-    ensures { (view : View) (w : World) → BecomesGiven view (Command.Assign prefixes (Assign.Value place reading)) item w result }
+    ensures becomes { (view : View) (w : World) → BecomesGiven view (Command.Assign prefixes (Assign.Value place reading)) item w result }
+    ensures knows { KnowsGiven (Command.Assign prefixes (Assign.Value place reading)) item result }
 {
     let _ = reading;
     match item {
@@ -115,7 +125,8 @@ fn value_given(prefixes: Prefixes, place: Place, reading: Reading, item: Item) -
 
 /// An assignment of a quantity to a place.
 fn amount_given(prefixes: Prefixes, place: Place, quantity: Quant) -> Outcome
-    ensures { (view : View) (w : World) (reading : Reading) → BecomesGiven view (Command.Assign prefixes (Assign.Value place reading)) (Item.Amount quantity) w result }
+    ensures becomes { (view : View) (w : World) (reading : Reading) → BecomesGiven view (Command.Assign prefixes (Assign.Value place reading)) (Item.Amount quantity) w result }
+    ensures knows { (known : Known) → KnowsPlace known place → KnowsOutcome known result }
 {
     match meaning(place, quantity) {
         Ok(meaning) => Outcome::Does(Effect::Assign(prefixes, place, meaning)),

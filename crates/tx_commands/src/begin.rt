@@ -5,8 +5,10 @@ ghost use Rattle.tx_private.specs.World.{World};
 ghost use Rattle.tx_private.specs.Controls.{commands, other_command};
 ghost use Rattle.tx_views.specs.Views.{View};
 ghost use Rattle.tx_views.specs.Meanings.{sense_in};
+ghost use Rattle.tx_frames.specs.Knowledge.{Known};
 ghost use Rattle.tx_commands.specs.Outcomes.{BecomesGiven, Makes};
 ghost use Rattle.tx_commands.specs.Stages.{begun_with};
+ghost use Rattle.tx_commands.specs.Knowledge.{KnowsOutcome, KnowsGiven};
 
 use crate::assign::at_place;
 use crate::command::{After, Command, Letters, Message};
@@ -23,7 +25,8 @@ use tx_views::{Place, Sense};
 
 /// A command, with the item that begins it.
 pub(crate) fn begin_given(alloc: Global, item: Item) -> Outcome
-    ensures { (view : View) (w : World) → BecomesGiven view Command.Start item w result }
+    ensures becomes { (view : View) (w : World) → BecomesGiven view Command.Start item w result }
+    ensures knows { KnowsGiven Command.Start item result }
 {
     match &item {
         Item::Expanded(_, sense) => begin(alloc, *sense),
@@ -34,7 +37,8 @@ pub(crate) fn begin_given(alloc: Global, item: Item) -> Outcome
 
 /// A command that begins with what means this. *TeX: The Program*, section 1045.
 fn begin(alloc: Global, sense: Sense) -> Outcome
-    ensures { (view : View) (w : World) → Makes view (begun_with (sense_in view sense)) w result }
+    ensures becomes { (view : View) (w : World) → Makes view (begun_with (sense_in view sense)) w result }
+    ensures knows { (known : Known) → KnowsOutcome known result }
 {
     match sense {
         Sense::Register(kind, no) => at_place(Prefixes::NONE, Place::Register(kind, no)),
@@ -46,7 +50,8 @@ fn begin(alloc: Global, sense: Sense) -> Outcome
 
 /// A character.
 fn character(alloc: Global, cat: Cat, byte: u8) -> Outcome
-    ensures { (view : View) (w : World) → Makes view (other_command (sense_in view (Sense.Char cat byte))) w result }
+    ensures becomes { (view : View) (w : World) → Makes view (other_command (sense_in view (Sense.Char cat byte))) w result }
+    ensures knows { (known : Known) → KnowsOutcome known result }
 {
     let _ = byte;
     match cat {
@@ -59,7 +64,8 @@ fn character(alloc: Global, cat: Cat, byte: u8) -> Outcome
 
 /// A command that begins with a primitive.
 fn begin_primitive(alloc: Global, primitive: AnyPrimitive) -> Outcome
-    ensures { (view : View) (w : World) → Makes view (begun_with (Prim primitive)) w result }
+    ensures becomes { (view : View) (w : World) → Makes view (begun_with (Prim primitive)) w result }
+    ensures knows { (known : Known) → KnowsOutcome known result }
 {
     match primitive {
         AnyPrimitive::IntegerParameter(parameter) => {
@@ -78,7 +84,8 @@ fn begin_primitive(alloc: Global, primitive: AnyPrimitive) -> Outcome
 
 /// An assignment without a prefix, or a prefix.
 fn begin_assignment(primitive: Assignment) -> Outcome
-    ensures { (view : View) (w : World) → Makes view (begun_with (Prim (AnyPrimitive.Assignment primitive))) w result }
+    ensures becomes { (view : View) (w : World) → Makes view (begun_with (Prim (AnyPrimitive.Assignment primitive))) w result }
+    ensures knows { (known : Known) → KnowsOutcome known result }
 {
     match prefix(primitive, Prefixes::NONE) {
         Some(prefixes) => Outcome::Goes(Command::Prefixed(prefixes)),
@@ -88,7 +95,8 @@ fn begin_assignment(primitive: Assignment) -> Outcome
 
 /// A primitive of the family of commands. What isn't built yet is error 63.
 fn begin_command(alloc: Global, primitive: Primitive) -> Outcome
-    ensures { (view : View) (w : World) → Makes view (commands primitive) w result }
+    ensures becomes { (view : View) (w : World) → Makes view (commands primitive) w result }
+    ensures knows { (known : Known) → KnowsOutcome known result }
 {
     match primitive {
         Primitive::Relax => Outcome::Again(Toks::new(alloc)),

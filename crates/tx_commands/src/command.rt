@@ -1,7 +1,9 @@
 //! Commands, by how far each is.
 
 ghost use Rattle.std.specs.Prelude.{◌≡◌};
+ghost use Rattle.tx_frames.specs.Knowledge.{Known, KnowsWish};
 ghost use Rattle.tx_commands.specs.Wishes.{wish_of, assign_wish as assign_wish_of, named_wish as named_wish_of, stage_wish as stage_wish_of, arithmetic_wish as arithmetic_wish_of, text_wish as text_wish_of, body_text as body_text_of};
+ghost use Rattle.tx_commands.specs.Knowledge.{KnowsAssign, KnowsArithmetic, KnowsControl};
 
 use tx_assign::{Operation, Prefixes};
 use tx_eqtb::RegKind;
@@ -166,7 +168,8 @@ pub enum Command {
 impl Command {
     /// How the command takes its next item.
     pub fn wish(&self) -> Wish
-        ensures { result ≡ wish_of self.now }
+        ensures wish { result ≡ wish_of self.now }
+        ensures knows { (known : Known) → KnowsControl known self.now → KnowsWish known result }
     {
         match self {
             Command::Start | Command::Prefixed(_) | Command::IgnoreSpaces => Wish::Expanded(false),
@@ -182,7 +185,8 @@ impl Command {
 
 /// How an assignment to a place takes its next item.
 fn assign_wish(assign: Assign) -> Wish
-    ensures { result ≡ assign_wish_of assign }
+    ensures wish { result ≡ assign_wish_of assign }
+    ensures knows { (known : Known) → KnowsAssign known assign → KnowsWish known result }
 {
     match assign {
         Assign::Register(_) | Assign::Code(_) => Wish::Within(Reading::Number),
@@ -193,7 +197,8 @@ fn assign_wish(assign: Assign) -> Wish
 
 /// How a command takes its next item behind its name.
 fn named_wish(named: Named) -> Wish
-    ensures { result ≡ named_wish_of named }
+    ensures wish { result ≡ named_wish_of named }
+    ensures knows { (known : Known) → KnowsWish known result }
 {
     match named {
         Named::Define(_, DefineStage::Brace) | Named::Let(_) | Named::FutureLet(_) => Wish::Plain,
@@ -217,7 +222,8 @@ fn body_text(expands: bool) -> TextKind
 
 /// How an equals sign and then a number are read.
 fn stage_wish(stage: Stage) -> Wish
-    ensures { result ≡ stage_wish_of stage }
+    ensures wish { result ≡ stage_wish_of stage }
+    ensures knows { (known : Known) → KnowsWish known result }
 {
     match stage {
         Stage::Equals => Wish::Within(Reading::Equals),
@@ -227,7 +233,8 @@ fn stage_wish(stage: Stage) -> Wish
 
 /// How arithmetic takes its next item.
 fn arithmetic_wish(arithmetic: Arithmetic) -> Wish
-    ensures { result ≡ arithmetic_wish_of arithmetic }
+    ensures wish { result ≡ arithmetic_wish_of arithmetic }
+    ensures knows { (known : Known) → KnowsArithmetic known arithmetic → KnowsWish known result }
 {
     match arithmetic {
         Arithmetic::Target => Wish::Expanded(false),
@@ -239,7 +246,8 @@ fn arithmetic_wish(arithmetic: Arithmetic) -> Wish
 
 /// How a text is taken, behind its left brace or not.
 fn text_wish(kind: TextKind, braced: bool) -> Wish
-    ensures { result ≡ text_wish_of kind braced }
+    ensures wish { result ≡ text_wish_of kind braced }
+    ensures knows { (known : Known) → KnowsWish known result }
 {
     if braced {
         Wish::Within(Reading::Text(kind))

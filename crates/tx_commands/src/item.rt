@@ -4,9 +4,11 @@ ghost use Rattle.std.specs.Prelude.{◌≡◌};
 ghost use Rattle.tx_views.specs.Views.{View};
 ghost use Rattle.tx_frames.specs.Values.{item_in as reading_item_in};
 ghost use Rattle.tx_frames.specs.declared.value.Item.TheVariants as reading_item;
+ghost use Rattle.tx_frames.specs.Knowledge.{Known, KnowsItem as KnowsReadingItem, KnowsValue};
 ghost use Rattle.tx_commands.specs.declared.command.Command.{Command};
 ghost use Rattle.tx_commands.specs.Items.{item_in};
 ghost use Rattle.tx_commands.specs.Outcomes.{Suits};
+ghost use Rattle.tx_commands.specs.Knowledge.{KnowsItem};
 
 use tx_num::Quant;
 use tx_tok::{ListRef, Tok, Toks};
@@ -40,6 +42,7 @@ impl Item {
     pub fn of(item: tx_frames::Item) -> Item
         ensures same { (view : View) → item_in view result ≡ reading_item_in view item }
         ensures suits { (command : Command) → Suits command result }
+        ensures knows { (known : Known) → KnowsReadingItem known item → KnowsItem known result }
     {
         match item {
             tx_frames::Item::Token(token, sense) => Item::Token(token, sense),
@@ -52,6 +55,7 @@ impl Item {
     pub fn of_value(value: tx_frames::Value) -> Item
         ensures same { (view : View) → item_in view result ≡ reading_item_in view (reading_item.Given value) }
         ensures suits { (command : Command) → Suits command result }
+        ensures knows { (known : Known) → KnowsValue known value → KnowsItem known result }
     {
         match value {
             tx_frames::Value::Command(token, sense) => Item::Expanded(token, sense),

@@ -3,7 +3,7 @@
 //!
 //! Nothing here touches the pending input, the environment or a store: an outcome says what a command does next, and
 //! whoever keeps the state carries it out.
-#![tactic(auto, unfolding(tx_private::specs::Moves::move_in))]
+#![tactic(auto)]
 
 mod after;
 mod arithmetic;

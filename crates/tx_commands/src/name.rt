@@ -4,8 +4,10 @@ ghost use Rattle.tx_private.specs.World.{World};
 ghost use Rattle.tx_views.specs.Views.{View};
 ghost use Rattle.tx_views.specs.Places.{address_in};
 ghost use Rattle.tx_assign.specs.Assigned.{prefixes_in};
+ghost use Rattle.tx_frames.specs.Knowledge.{Known, KnowsPlace};
 ghost use Rattle.tx_commands.specs.Outcomes.{BecomesGiven, Makes};
 ghost use Rattle.tx_commands.specs.Commands.{behind_name as behind_name_of};
+ghost use Rattle.tx_commands.specs.Knowledge.{KnowsOutcome, KnowsGiven};
 
 use crate::command::{Command, DefineStage, FutureLetStage, LetStage, Named, Naming, Stage};
 use crate::item::Item;
@@ -17,7 +19,8 @@ use tx_views::{Place, Sense};
 
 /// A command that takes a name, with the item that is the name, or a space before it.
 pub(crate) fn name_given(prefixes: Prefixes, naming: Naming, item: Item) -> Outcome
-    ensures { (view : View) (w : World) → BecomesGiven view (Command.Name prefixes naming) item w result }
+    ensures becomes { (view : View) (w : World) → BecomesGiven view (Command.Name prefixes naming) item w result }
+    ensures knows { KnowsGiven (Command.Name prefixes naming) item result }
 {
     match &item {
         Item::Token(token, sense) => name(prefixes, naming, *token, *sense),
@@ -27,7 +30,8 @@ pub(crate) fn name_given(prefixes: Prefixes, naming: Naming, item: Item) -> Outc
 
 /// A command that takes a name, with the token that is the name, or a space before it.
 fn name(prefixes: Prefixes, naming: Naming, token: Tok, sense: Sense) -> Outcome
-    ensures { (view : View) (w : World) → BecomesGiven view (Command.Name prefixes naming) (Item.Token token sense) w result }
+    ensures becomes { (view : View) (w : World) → BecomesGiven view (Command.Name prefixes naming) (Item.Token token sense) w result }
+    ensures knows { KnowsGiven (Command.Name prefixes naming) (Item.Token token sense) result }
 {
     let _ = sense;
     if is_space_token(token) {
@@ -41,7 +45,8 @@ fn name(prefixes: Prefixes, naming: Naming, token: Tok, sense: Sense) -> Outcome
 
 /// A command that took its name.
 fn behind_name(prefixes: Prefixes, naming: Naming, place: Place) -> Outcome
-    ensures { (view : View) (w : World) → Makes view (behind_name_of (prefixes_in prefixes) naming (address_in view place)) w result }
+    ensures becomes { (view : View) (w : World) → Makes view (behind_name_of (prefixes_in prefixes) naming (address_in view place)) w result }
+    ensures knows { (known : Known) → KnowsPlace known place → KnowsOutcome known result }
 {
     match naming {
         Naming::Define(expands) => Outcome::Goes(Command::Named(

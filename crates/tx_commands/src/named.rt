@@ -1,14 +1,16 @@
 //! Commands behind their names. *TeX: The Program*, sections 1218, 1221 and 1224.
 
-ghost use Rattle.std.specs.Prelude.{◌≡◌};
+ghost use Rattle.std.specs.Prelude.{◌≡◌, IfOk};
 ghost use Rattle.tx_private.specs.World.{World};
 ghost use Rattle.tx_private.specs.Meanings as meanings;
 ghost use Rattle.tx_private.specs.Readings.{Move};
 ghost use Rattle.tx_views.specs.Views.{View};
 ghost use Rattle.tx_views.specs.Meanings.{meaning_in};
 ghost use Rattle.tx_assign.specs.Refusals.{led};
+ghost use Rattle.tx_frames.specs.Knowledge.{Known};
 ghost use Rattle.tx_commands.specs.Commands.{checks, means};
 ghost use Rattle.tx_commands.specs.Outcomes.{BecomesGiven, Suits};
+ghost use Rattle.tx_commands.specs.Knowledge.{KnowsMeaning, KnowsGiven};
 
 use crate::command::{Command, DefineStage, FutureLetStage, LetStage, Named, Stage, Standing};
 use crate::effect::Effect;
@@ -25,7 +27,8 @@ use tx_views::{Place, Sense};
 /// A command behind its name, with an item more.
 pub(crate) fn named_given(prefixes: Prefixes, place: Place, named: Named, item: Item) -> Outcome
     requires { Suits (Command.Named prefixes place named) item }
-    ensures { (view : View) (w : World) → BecomesGiven view (Command.Named prefixes place named) item w result }
+    ensures becomes { (view : View) (w : World) → BecomesGiven view (Command.Named prefixes place named) item w result }
+    ensures knows { KnowsGiven (Command.Named prefixes place named) item result }
 {
     match named {
         Named::Define(expands, stage) => define_given(prefixes, place, expands, stage, item),
@@ -44,7 +47,8 @@ fn define_given(
     item: Item,
 ) -> Outcome
     requires { Suits (Command.Named prefixes place (Named.Define expands stage)) item }
-    ensures { (view : View) (w : World) → BecomesGiven view (Command.Named prefixes place (Named.Define expands stage)) item w result }
+    ensures becomes { (view : View) (w : World) → BecomesGiven view (Command.Named prefixes place (Named.Define expands stage)) item w result }
+    ensures knows { KnowsGiven (Command.Named prefixes place (Named.Define expands stage)) item result }
 {
     match stage {
         DefineStage::Brace => brace_given(prefixes, place, expands, item),
@@ -54,7 +58,8 @@ fn define_given(
 
 /// A definition, with the item that is its left brace.
 fn brace_given(prefixes: Prefixes, place: Place, expands: bool, item: Item) -> Outcome
-    ensures { (view : View) (w : World) → BecomesGiven view (Command.Named prefixes place (Named.Define expands DefineStage.Brace)) item w result }
+    ensures becomes { (view : View) (w : World) → BecomesGiven view (Command.Named prefixes place (Named.Define expands DefineStage.Brace)) item w result }
+    ensures knows { KnowsGiven (Command.Named prefixes place (Named.Define expands DefineStage.Brace)) item result }
 {
     match &item {
         Item::Token(token, sense) => brace(prefixes, place, expands, *token, *sense),
@@ -64,7 +69,8 @@ fn brace_given(prefixes: Prefixes, place: Place, expands: bool, item: Item) -> O
 
 /// A definition, with the token that is its left brace.
 fn brace(prefixes: Prefixes, place: Place, expands: bool, token: Tok, sense: Sense) -> Outcome
-    ensures { (view : View) (w : World) → BecomesGiven view (Command.Named prefixes place (Named.Define expands DefineStage.Brace)) (Item.Token token sense) w result }
+    ensures becomes { (view : View) (w : World) → BecomesGiven view (Command.Named prefixes place (Named.Define expands DefineStage.Brace)) (Item.Token token sense) w result }
+    ensures knows { KnowsGiven (Command.Named prefixes place (Named.Define expands DefineStage.Brace)) (Item.Token token sense) result }
 {
     if is_left_brace(token) {
         Outcome::Goes(Command::Named(
@@ -87,7 +93,8 @@ fn body_given(
     item: Item,
 ) -> Outcome
     requires { Suits (Command.Named prefixes place (Named.Define expands (DefineStage.Body token sense))) item }
-    ensures { (view : View) (w : World) → BecomesGiven view (Command.Named prefixes place (Named.Define expands (DefineStage.Body token sense))) item w result }
+    ensures becomes { (view : View) (w : World) → BecomesGiven view (Command.Named prefixes place (Named.Define expands (DefineStage.Body token sense))) item w result }
+    ensures knows { KnowsGiven (Command.Named prefixes place (Named.Define expands (DefineStage.Body token sense))) item result }
 {
     let _ = (expands, token, sense);
     match item {
@@ -105,7 +112,8 @@ fn body_given(
 
 /// `\let`, with an item more.
 fn let_given(prefixes: Prefixes, place: Place, stage: LetStage, item: Item) -> Outcome
-    ensures { (view : View) (w : World) → BecomesGiven view (Command.Named prefixes place (Named.Let stage)) item w result }
+    ensures becomes { (view : View) (w : World) → BecomesGiven view (Command.Named prefixes place (Named.Let stage)) item w result }
+    ensures knows { KnowsGiven (Command.Named prefixes place (Named.Let stage)) item result }
 {
     match stage {
         LetStage::Start => let_start_given(prefixes, place, item),
@@ -116,7 +124,8 @@ fn let_given(prefixes: Prefixes, place: Place, stage: LetStage, item: Item) -> O
 
 /// `\let` directly behind its name, with an item more.
 fn let_start_given(prefixes: Prefixes, place: Place, item: Item) -> Outcome
-    ensures { (view : View) (w : World) → BecomesGiven view (Command.Named prefixes place (Named.Let LetStage.Start)) item w result }
+    ensures becomes { (view : View) (w : World) → BecomesGiven view (Command.Named prefixes place (Named.Let LetStage.Start)) item w result }
+    ensures knows { KnowsGiven (Command.Named prefixes place (Named.Let LetStage.Start)) item result }
 {
     match &item {
         Item::Token(token, sense) => let_start(prefixes, place, *token, sense),
@@ -126,7 +135,8 @@ fn let_start_given(prefixes: Prefixes, place: Place, item: Item) -> Outcome
 
 /// `\let` directly behind its name, with a token more.
 fn let_start(prefixes: Prefixes, place: Place, token: Tok, sense: &Sense) -> Outcome
-    ensures { (view : View) (w : World) → BecomesGiven view (Command.Named prefixes place (Named.Let LetStage.Start)) (Item.Token token sense.now) w result }
+    ensures becomes { (view : View) (w : World) → BecomesGiven view (Command.Named prefixes place (Named.Let LetStage.Start)) (Item.Token token sense.now) w result }
+    ensures knows { KnowsGiven (Command.Named prefixes place (Named.Let LetStage.Start)) (Item.Token token sense.now) result }
 {
     if is_space(sense) {
         Outcome::Goes(Command::Named(prefixes, place, Named::Let(LetStage::Start)))
@@ -139,7 +149,8 @@ fn let_start(prefixes: Prefixes, place: Place, token: Tok, sense: &Sense) -> Out
 
 /// `\let` behind its equals sign, with an item more.
 fn let_equals_given(prefixes: Prefixes, place: Place, item: Item) -> Outcome
-    ensures { (view : View) (w : World) → BecomesGiven view (Command.Named prefixes place (Named.Let LetStage.Equals)) item w result }
+    ensures becomes { (view : View) (w : World) → BecomesGiven view (Command.Named prefixes place (Named.Let LetStage.Equals)) item w result }
+    ensures knows { KnowsGiven (Command.Named prefixes place (Named.Let LetStage.Equals)) item result }
 {
     match &item {
         Item::Token(token, sense) => let_equals(prefixes, place, *token, sense),
@@ -149,7 +160,8 @@ fn let_equals_given(prefixes: Prefixes, place: Place, item: Item) -> Outcome
 
 /// `\let` behind its equals sign, with a token more.
 fn let_equals(prefixes: Prefixes, place: Place, token: Tok, sense: &Sense) -> Outcome
-    ensures { (view : View) (w : World) → BecomesGiven view (Command.Named prefixes place (Named.Let LetStage.Equals)) (Item.Token token sense.now) w result }
+    ensures becomes { (view : View) (w : World) → BecomesGiven view (Command.Named prefixes place (Named.Let LetStage.Equals)) (Item.Token token sense.now) w result }
+    ensures knows { KnowsGiven (Command.Named prefixes place (Named.Let LetStage.Equals)) (Item.Token token sense.now) result }
 {
     let _ = token;
     if is_space(sense) {
@@ -161,7 +173,8 @@ fn let_equals(prefixes: Prefixes, place: Place, token: Tok, sense: &Sense) -> Ou
 
 /// `\let` behind its equals sign and a space, with an item more.
 fn let_last_given(prefixes: Prefixes, place: Place, item: Item) -> Outcome
-    ensures { (view : View) (w : World) → BecomesGiven view (Command.Named prefixes place (Named.Let LetStage.Last)) item w result }
+    ensures becomes { (view : View) (w : World) → BecomesGiven view (Command.Named prefixes place (Named.Let LetStage.Last)) item w result }
+    ensures knows { KnowsGiven (Command.Named prefixes place (Named.Let LetStage.Last)) item result }
 {
     match &item {
         Item::Token(_, sense) => Outcome::Does(Effect::Let(prefixes, place, *sense)),
@@ -171,7 +184,8 @@ fn let_last_given(prefixes: Prefixes, place: Place, item: Item) -> Outcome
 
 /// `\futurelet`, with an item more.
 fn future_let_given(prefixes: Prefixes, place: Place, stage: FutureLetStage, item: Item) -> Outcome
-    ensures { (view : View) (w : World) → BecomesGiven view (Command.Named prefixes place (Named.FutureLet stage)) item w result }
+    ensures becomes { (view : View) (w : World) → BecomesGiven view (Command.Named prefixes place (Named.FutureLet stage)) item w result }
+    ensures knows { KnowsGiven (Command.Named prefixes place (Named.FutureLet stage)) item result }
 {
     match stage {
         FutureLetStage::First => first_given(prefixes, place, item),
@@ -181,7 +195,8 @@ fn future_let_given(prefixes: Prefixes, place: Place, stage: FutureLetStage, ite
 
 /// `\futurelet`, with the item that is its first token.
 fn first_given(prefixes: Prefixes, place: Place, item: Item) -> Outcome
-    ensures { (view : View) (w : World) → BecomesGiven view (Command.Named prefixes place (Named.FutureLet FutureLetStage.First)) item w result }
+    ensures becomes { (view : View) (w : World) → BecomesGiven view (Command.Named prefixes place (Named.FutureLet FutureLetStage.First)) item w result }
+    ensures knows { KnowsGiven (Command.Named prefixes place (Named.FutureLet FutureLetStage.First)) item result }
 {
     match &item {
         Item::Token(token, sense) => Outcome::Goes(Command::Named(
@@ -195,7 +210,8 @@ fn first_given(prefixes: Prefixes, place: Place, item: Item) -> Outcome
 
 /// `\futurelet`, with the item that is its second token.
 fn second_given(prefixes: Prefixes, place: Place, first: Tok, means: Sense, item: Item) -> Outcome
-    ensures { (view : View) (w : World) → BecomesGiven view (Command.Named prefixes place (Named.FutureLet (FutureLetStage.Second first means))) item w result }
+    ensures becomes { (view : View) (w : World) → BecomesGiven view (Command.Named prefixes place (Named.FutureLet (FutureLetStage.Second first means))) item w result }
+    ensures knows { KnowsGiven (Command.Named prefixes place (Named.FutureLet (FutureLetStage.Second first means))) item result }
 {
     let _ = means;
     match &item {
@@ -214,7 +230,8 @@ fn stand_given(
     stage: Stage,
     item: Item,
 ) -> Outcome
-    ensures { (view : View) (w : World) → BecomesGiven view (Command.Named prefixes place (Named.Stand what stage)) item w result }
+    ensures becomes { (view : View) (w : World) → BecomesGiven view (Command.Named prefixes place (Named.Stand what stage)) item w result }
+    ensures knows { KnowsGiven (Command.Named prefixes place (Named.Stand what stage)) item result }
 {
     match stage {
         Stage::Equals => equals_given(prefixes, place, what, item),
@@ -224,7 +241,8 @@ fn stand_given(
 
 /// A name that stands for a number, with its equals sign or none.
 fn equals_given(prefixes: Prefixes, place: Place, what: Standing, item: Item) -> Outcome
-    ensures { (view : View) (w : World) → BecomesGiven view (Command.Named prefixes place (Named.Stand what Stage.Equals)) item w result }
+    ensures becomes { (view : View) (w : World) → BecomesGiven view (Command.Named prefixes place (Named.Stand what Stage.Equals)) item w result }
+    ensures knows { KnowsGiven (Command.Named prefixes place (Named.Stand what Stage.Equals)) item result }
 {
     match &item {
         Item::Nothing => {
@@ -236,7 +254,8 @@ fn equals_given(prefixes: Prefixes, place: Place, what: Standing, item: Item) ->
 
 /// A name that stands for a number, with the item that is the number.
 fn number_given(prefixes: Prefixes, place: Place, what: Standing, item: Item) -> Outcome
-    ensures { (view : View) (w : World) → BecomesGiven view (Command.Named prefixes place (Named.Stand what Stage.Number)) item w result }
+    ensures becomes { (view : View) (w : World) → BecomesGiven view (Command.Named prefixes place (Named.Stand what Stage.Number)) item w result }
+    ensures knows { KnowsGiven (Command.Named prefixes place (Named.Stand what Stage.Number)) item result }
 {
     match &item {
         Item::Amount(quantity) => number(prefixes, place, what, *quantity),
@@ -246,7 +265,8 @@ fn number_given(prefixes: Prefixes, place: Place, what: Standing, item: Item) ->
 
 /// A name that stands for a number, with the quantity that is the number.
 fn number(prefixes: Prefixes, place: Place, what: Standing, quantity: Quant) -> Outcome
-    ensures { (view : View) (w : World) → BecomesGiven view (Command.Named prefixes place (Named.Stand what Stage.Number)) (Item.Amount quantity) w result }
+    ensures becomes { (view : View) (w : World) → BecomesGiven view (Command.Named prefixes place (Named.Stand what Stage.Number)) (Item.Amount quantity) w result }
+    ensures knows { KnowsGiven (Command.Named prefixes place (Named.Stand what Stage.Number)) (Item.Amount quantity) result }
 {
     match quantity {
         Quant::Int(n) => stand(prefixes, place, what, n),
@@ -256,7 +276,8 @@ fn number(prefixes: Prefixes, place: Place, what: Standing, quantity: Quant) -> 
 
 /// A name that stands for this number.
 fn stand(prefixes: Prefixes, place: Place, what: Standing, n: i32) -> Outcome
-    ensures { (view : View) (w : World) → BecomesGiven view (Command.Named prefixes place (Named.Stand what Stage.Number)) (Item.Amount (Quant.Int n)) w result }
+    ensures becomes { (view : View) (w : World) → BecomesGiven view (Command.Named prefixes place (Named.Stand what Stage.Number)) (Item.Amount (Quant.Int n)) w result }
+    ensures knows { KnowsGiven (Command.Named prefixes place (Named.Stand what Stage.Number)) (Item.Amount (Quant.Int n)) result }
 {
     match standing(what, n) {
         Ok(meaning) => Outcome::Does(Effect::Assign(prefixes, place, meaning)),
@@ -266,7 +287,8 @@ fn stand(prefixes: Prefixes, place: Place, what: Standing, n: i32) -> Outcome
 
 /// What a name means that stands for this number. The errors are 15, 16 and 17, each where the number is out of range.
 fn standing(what: Standing, n: i32) -> Result<Meaning<BoxNode>, Refused>
-    ensures { (view : View) (further : meanings.Meaning → Move) (w : World) → checks what n w (λ k. further (means what k)) ≡ led result (λ m. further (meaning_in view m)) w }
+    ensures leads { (view : View) (further : meanings.Meaning → Move) (w : World) → checks what n w (λ k. further (means what k)) ≡ led result (λ m. further (meaning_in view m)) w }
+    ensures knows { (known : Known) → IfOk result (KnowsMeaning known) }
 {
     match what {
         Standing::Character => Ok(Meaning::Code(false, u16::from(byte(ByteError::Character, n)?))),

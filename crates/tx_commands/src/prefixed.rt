@@ -9,8 +9,10 @@ ghost use Rattle.tx_views.specs.Views.{View};
 ghost use Rattle.tx_views.specs.Places.{address_in};
 ghost use Rattle.tx_views.specs.Meanings.{sense_in};
 ghost use Rattle.tx_assign.specs.Assigned.{prefixes_in};
+ghost use Rattle.tx_frames.specs.Knowledge.{Known, KnowsPlace, KnowsSense};
 ghost use Rattle.tx_commands.specs.Outcomes.{BecomesGiven, Makes};
 ghost use Rattle.tx_commands.specs.Stages.{prefixed_with, skipping};
+ghost use Rattle.tx_commands.specs.Knowledge.{KnowsOutcome, KnowsGiven};
 
 use crate::assign::at_place;
 use crate::command::Command;
@@ -27,7 +29,8 @@ use tx_views::{Place, Sense};
 
 /// Prefixes, with an item more.
 pub(crate) fn prefixed_given(alloc: Global, prefixes: Prefixes, item: Item) -> Outcome
-    ensures { (view : View) (w : World) → BecomesGiven view (Command.Prefixed prefixes) item w result }
+    ensures becomes { (view : View) (w : World) → BecomesGiven view (Command.Prefixed prefixes) item w result }
+    ensures knows { KnowsGiven (Command.Prefixed prefixes) item result }
 {
     match &item {
         Item::Expanded(_, sense) => behind_prefixes(prefixes, sense),
@@ -37,7 +40,8 @@ pub(crate) fn prefixed_given(alloc: Global, prefixes: Prefixes, item: Item) -> O
 
 /// Prefixes, before what means this.
 fn behind_prefixes(prefixes: Prefixes, sense: &Sense) -> Outcome
-    ensures { (view : View) (w : World) → Makes view (skipping (prefixes_in prefixes) (sense_in view sense.now)) w result }
+    ensures becomes { (view : View) (w : World) → Makes view (skipping (prefixes_in prefixes) (sense_in view sense.now)) w result }
+    ensures knows { (known : Known) → KnowsSense known sense.now → KnowsOutcome known result }
 {
     if is_skipped(sense) {
         Outcome::Goes(Command::Prefixed(prefixes))
@@ -48,7 +52,8 @@ fn behind_prefixes(prefixes: Prefixes, sense: &Sense) -> Outcome
 
 /// Prefixes, before what means this, which is not skipped.
 fn prefixed(prefixes: Prefixes, sense: Sense) -> Outcome
-    ensures { (view : View) (w : World) → Makes view (prefixed_with (prefixes_in prefixes) (sense_in view sense)) w result }
+    ensures becomes { (view : View) (w : World) → Makes view (prefixed_with (prefixes_in prefixes) (sense_in view sense)) w result }
+    ensures knows { (known : Known) → KnowsSense known sense → KnowsOutcome known result }
 {
     match sense {
         Sense::Register(kind, no) => prefixed_place(
@@ -63,7 +68,8 @@ fn prefixed(prefixes: Prefixes, sense: Sense) -> Outcome
 
 /// Prefixes, before a primitive, which is not skipped.
 fn prefixed_primitive(prefixes: Prefixes, primitive: Primitive) -> Outcome
-    ensures { (view : View) (w : World) → Makes view (prefixed_with (prefixes_in prefixes) (Prim primitive)) w result }
+    ensures becomes { (view : View) (w : World) → Makes view (prefixed_with (prefixes_in prefixes) (Prim primitive)) w result }
+    ensures knows { (known : Known) → KnowsOutcome known result }
 {
     let sense = Sense::Primitive(primitive);
     match primitive {
@@ -95,7 +101,8 @@ fn are_flagged(prefixes: Prefixes) -> bool
 
 /// Prefixes, before a token that means this and is for a place.
 fn prefixed_place(prefixes: Prefixes, sense: Sense, place: Place) -> Outcome
-    ensures { (view : View) (w : World) → Makes view (λ items v. checked (prefixes.long || prefixes.protected) false (sense_in view sense) v (assign_at (prefixes_in prefixes) (address_in view place) items v)) w result }
+    ensures becomes { (view : View) (w : World) → Makes view (λ items v. checked (prefixes.long || prefixes.protected) false (sense_in view sense) v (assign_at (prefixes_in prefixes) (address_in view place) items v)) w result }
+    ensures knows { (known : Known) → KnowsSense known sense → KnowsPlace known place → KnowsOutcome known result }
 {
     if are_flagged(prefixes) {
         Outcome::Does(Effect::BadPrefix(sense))
@@ -106,7 +113,8 @@ fn prefixed_place(prefixes: Prefixes, sense: Sense, place: Place) -> Outcome
 
 /// Prefixes, before an assignment or a further prefix.
 fn prefixed_assignment(prefixes: Prefixes, primitive: Assignment) -> Outcome
-    ensures { (view : View) (w : World) → Makes view (prefixed_with (prefixes_in prefixes) (Prim (Primitive.Assignment primitive))) w result }
+    ensures becomes { (view : View) (w : World) → Makes view (prefixed_with (prefixes_in prefixes) (Prim (Primitive.Assignment primitive))) w result }
+    ensures knows { (known : Known) → KnowsOutcome known result }
 {
     match prefix(primitive, prefixes) {
         Some(prefixes) => Outcome::Goes(Command::Prefixed(prefixes)),
@@ -116,7 +124,8 @@ fn prefixed_assignment(prefixes: Prefixes, primitive: Assignment) -> Outcome
 
 /// Prefixes, before an assignment.
 fn flagged_assignment(prefixes: Prefixes, primitive: Assignment) -> Outcome
-    ensures { (view : View) (w : World) → Makes view (λ items v. checked (prefixes.long || prefixes.protected) (is_definition primitive) (Prim (Primitive.Assignment primitive)) v (assignments (prefixes_in prefixes) primitive items v)) w result }
+    ensures becomes { (view : View) (w : World) → Makes view (λ items v. checked (prefixes.long || prefixes.protected) (is_definition primitive) (Prim (Primitive.Assignment primitive)) v (assignments (prefixes_in prefixes) primitive items v)) w result }
+    ensures knows { (known : Known) → KnowsOutcome known result }
 {
     if are_flagged(prefixes) {
         definition(prefixes, primitive)
@@ -127,7 +136,8 @@ fn flagged_assignment(prefixes: Prefixes, primitive: Assignment) -> Outcome
 
 /// `\long` or `\protected`, before an assignment, which must be a definition.
 fn definition(prefixes: Prefixes, primitive: Assignment) -> Outcome
-    ensures { (view : View) (w : World) → Makes view (λ items v. checked true (is_definition primitive) (Prim (Primitive.Assignment primitive)) v (assignments (prefixes_in prefixes) primitive items v)) w result }
+    ensures becomes { (view : View) (w : World) → Makes view (λ items v. checked true (is_definition primitive) (Prim (Primitive.Assignment primitive)) v (assignments (prefixes_in prefixes) primitive items v)) w result }
+    ensures knows { (known : Known) → KnowsOutcome known result }
 {
     if defines(primitive) {
         assignment(prefixes, primitive)

@@ -4,6 +4,7 @@ ghost use Rattle.std.specs.Prelude.{true, false};
 ghost use Rattle.tx_private.specs.World.{World};
 ghost use Rattle.tx_views.specs.Views.{View};
 ghost use Rattle.tx_commands.specs.Outcomes.{BecomesGiven, Suits};
+ghost use Rattle.tx_commands.specs.Knowledge.{KnowsGiven};
 
 use crate::command::{Command, Letters, Message};
 use crate::effect::Effect;
@@ -13,7 +14,8 @@ use crate::outcome::Outcome;
 /// `\message` or `\errmessage`, with an item more.
 pub(crate) fn message_given(message: Message, braced: bool, item: Item) -> Outcome
     requires { Suits (Command.Message message braced) item }
-    ensures { (view : View) (w : World) → BecomesGiven view (Command.Message message braced) item w result }
+    ensures becomes { (view : View) (w : World) → BecomesGiven view (Command.Message message braced) item w result }
+    ensures knows { KnowsGiven (Command.Message message braced) item result }
 {
     if braced {
         message_text_given(message, item)
@@ -24,7 +26,8 @@ pub(crate) fn message_given(message: Message, braced: bool, item: Item) -> Outco
 
 /// `\message` or `\errmessage`, with its left brace.
 fn message_brace_given(message: Message, item: Item) -> Outcome
-    ensures { (view : View) (w : World) → BecomesGiven view (Command.Message message false) item w result }
+    ensures becomes { (view : View) (w : World) → BecomesGiven view (Command.Message message false) item w result }
+    ensures knows { KnowsGiven (Command.Message message false) item result }
 {
     match &item {
         Item::Nothing => Outcome::Goes(Command::Message(message, true)),
@@ -35,7 +38,8 @@ fn message_brace_given(message: Message, item: Item) -> Outcome
 /// `\message` or `\errmessage`, with the item that is its text.
 fn message_text_given(message: Message, item: Item) -> Outcome
     requires { Suits (Command.Message message true) item }
-    ensures { (view : View) (w : World) → BecomesGiven view (Command.Message message true) item w result }
+    ensures becomes { (view : View) (w : World) → BecomesGiven view (Command.Message message true) item w result }
+    ensures knows { KnowsGiven (Command.Message message true) item result }
 {
     match item {
         Item::Tokens(text) => Outcome::Does(Effect::Message(message, text)),
@@ -53,7 +57,8 @@ fn message_text_given(message: Message, item: Item) -> Outcome
 /// `\lowercase` or `\uppercase`, with an item more.
 pub(crate) fn letters_given(letters: Letters, braced: bool, item: Item) -> Outcome
     requires { Suits (Command.ChangeCase letters braced) item }
-    ensures { (view : View) (w : World) → BecomesGiven view (Command.ChangeCase letters braced) item w result }
+    ensures becomes { (view : View) (w : World) → BecomesGiven view (Command.ChangeCase letters braced) item w result }
+    ensures knows { KnowsGiven (Command.ChangeCase letters braced) item result }
 {
     if braced {
         letters_text_given(letters, item)
@@ -64,7 +69,8 @@ pub(crate) fn letters_given(letters: Letters, braced: bool, item: Item) -> Outco
 
 /// `\lowercase` or `\uppercase`, with its left brace.
 fn letters_brace_given(letters: Letters, item: Item) -> Outcome
-    ensures { (view : View) (w : World) → BecomesGiven view (Command.ChangeCase letters false) item w result }
+    ensures becomes { (view : View) (w : World) → BecomesGiven view (Command.ChangeCase letters false) item w result }
+    ensures knows { KnowsGiven (Command.ChangeCase letters false) item result }
 {
     match &item {
         Item::Nothing => Outcome::Goes(Command::ChangeCase(letters, true)),
@@ -75,7 +81,8 @@ fn letters_brace_given(letters: Letters, item: Item) -> Outcome
 /// `\lowercase` or `\uppercase`, with the item that is its text.
 fn letters_text_given(letters: Letters, item: Item) -> Outcome
     requires { Suits (Command.ChangeCase letters true) item }
-    ensures { (view : View) (w : World) → BecomesGiven view (Command.ChangeCase letters true) item w result }
+    ensures becomes { (view : View) (w : World) → BecomesGiven view (Command.ChangeCase letters true) item w result }
+    ensures knows { KnowsGiven (Command.ChangeCase letters true) item result }
 {
     match item {
         Item::Tokens(text) => Outcome::Does(Effect::ChangeCase(letters, text)),

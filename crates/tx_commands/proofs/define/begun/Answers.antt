@@ -1,4 +1,4 @@
 use Rattle.tx_commands.proofs.define.begun.Goals as goal
 
-pub returns-in-Code : goal.returns-in-Code
-returns-in-Code c = rw c.in-Code.is c.code.ensures
+pub returns-in-Code-clause-becomes : goal.returns-in-Code-clause-becomes
+returns-in-Code-clause-becomes c = rw c.in-Code.is c.code.ensures.becomes

@@ -1,4 +1,7 @@
 use Rattle.tx_commands.proofs.named.brace_given.Goals as goal
 
-pub returns-in-Token : goal.returns-in-Token
-returns-in-Token c = rw c.in-Token.is c.brace.ensures
+pub returns-in-Token-clause-becomes : goal.returns-in-Token-clause-becomes
+returns-in-Token-clause-becomes c = rw c.in-Token.is c.brace.ensures.becomes
+
+pub returns-in-Token-clause-knows : goal.returns-in-Token-clause-knows
+returns-in-Token-clause-knows c = rw c.in-Token.is c.brace.ensures.knows
