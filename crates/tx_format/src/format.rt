@@ -1,6 +1,6 @@
 //! The format: a frozen state.
 
-ghost use Rattle.std.specs.Prelude.{◌≡◌, ◌<◌, [], get_or, length, position, IfOk};
+ghost use Rattle.std.specs.Prelude.{◌≡◌, ◌<◌, ◌≤◌, [], get_or, length, position, IfOk, IfSome, IfNone};
 ghost use Rattle.tx_names.specs.Names.{number_of, IsDistinct as NamesDiffer};
 ghost use Rattle.tx_format.specs.Formats.{IsFreezable, IsPreset, table_of, list_at, same_tokens};
 ghost use Rattle.tx_format.specs.declared.preset.Preset.TheVariants as preset;
@@ -120,6 +120,15 @@ impl Format {
         ensures { result.now ≡ list_at self.now.lists no }
     {
         self.lists.0[no as usize].as_slice()
+    }
+
+    /// The list with this number. None comes exactly where there is none.
+    pub fn get_list(&self, no: u32) -> Option<&[Tok]>
+        ensures some { IfSome result (λ list. (no < length self.now.lists) × (list.now ≡ list_at self.now.lists no)) }
+        ensures none { IfNone result (length self.now.lists ≤ no) }
+    {
+        let lists = self.lists.0.as_slice();
+        if (no as usize) < lists.len() { Some(lists[no as usize].as_slice()) } else { None }
     }
 
     /// The number of a list. None comes exactly where no list has that content.
