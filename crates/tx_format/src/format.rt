@@ -128,7 +128,11 @@ impl Format {
         ensures none { IfNone result (length self.now.lists ≤ no) }
     {
         let lists = self.lists.0.as_slice();
-        if (no as usize) < lists.len() { Some(lists[no as usize].as_slice()) } else { None }
+        if (no as usize) < lists.len() {
+            Some(lists[no as usize].as_slice())
+        } else {
+            None
+        }
     }
 
     /// The number of a list. None comes exactly where no list has that content.
