@@ -1,0 +1,17 @@
+use Rattle.std.proofs.Common.{sym, ◌∙◌, subst}
+use Rattle.tx_private.specs.Readings as private
+use Rattle.tx_private.specs.World.{World, put_in_front}
+use Rattle.tx_opens.specs.Opens.{Comes}
+use Rattle.tx_views.specs.Views.{all_viewed}
+use Rattle.tx_frames.specs.Values.{value_in}
+use Rattle.tx_scene.specs.Changes.{Changes}
+use Rattle.tx_run.specs.Runs.{opens}
+use Rattle.tx_run.proofs.ReadingLemmas.{gone}
+use Rattle.tx_run.proofs.run.Run.ends.Goals as goal
+
+-- the tokens are put in front
+pub returns-clause-ends : goal.returns-clause-ends
+returns-clause-ends c = λ frozen g is r after o depth.
+    let run = c.args.self.now in
+    let changes = gone (Changes (λ h w. put_in_front (all_viewed h.view c.args.back) w) run.scene c.put.new.self) c.put.result (sym c.is_err.ensures.value ∙ c.if-is_err.false) c.put.ensures.in_front in
+    subst (λ (w : World). Comes o (opens g.view run) (private.Done (value_in g.view c.args.value) w) r) (changes g frozen depth is) (after o depth)
