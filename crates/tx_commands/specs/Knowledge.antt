@@ -1,4 +1,5 @@
 -- What is known of the numbers in commands, and in what comes of them.
+use Rattle.std.specs.Prelude.{false}
 use Rattle.tx_eqtb.specs.declared.meaning.Meaning.{Meaning}
 use Rattle.tx_eqtb.specs.declared.meaning.Meaning.TheVariants as meaning
 use Rattle.tx_assign.specs.declared.targets.Target.{Target}
@@ -88,10 +89,14 @@ KnowsEffect known (effect.BadPrefix s) = KnowsSense known s
 KnowsEffect known (effect.NoTarget s) = KnowsSense known s
 KnowsEffect known _ = Unit {0}
 
--- and what comes of an item for a command
+-- the same, where no list is held
+abbrev pub no_lists : Known → Known
+no_lists known = record known { list = λ reference. false }
+
+-- And what comes of an item for a command. A command that goes on behind an assignment has no list.
 abbrev pub KnowsOutcome : Known → Outcome → Type 0
 KnowsOutcome known (outcome.Goes c) = KnowsControl known c
-KnowsOutcome known (outcome.Relaxes c p at) = KnowsControl known c × KnowsPlace known at
+KnowsOutcome known (outcome.Relaxes c p at) = KnowsControl (no_lists known) c × KnowsPlace known at
 KnowsOutcome known (outcome.Again back) = KnowsTokens known back
 KnowsOutcome known (outcome.Does e) = KnowsEffect known e
 KnowsOutcome known (outcome.Wrong e) = Unit {0}

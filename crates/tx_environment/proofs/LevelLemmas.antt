@@ -18,23 +18,18 @@ use Rattle.tx_private.specs.Environment.{Environment, present, beginning, assign
 use Rattle.tx_views.specs.Views.{View, viewed, all_viewed}
 use Rattle.tx_views.specs.Meanings.{map_in}
 use Rattle.tx_views.specs.Environments.{level_in, environment_of}
-use Rattle.tx_environment.specs.Steps.{innermost, with_present, keeping_for_end, alone}
+use Rattle.tx_environment.specs.Steps.{innermost, leaving, with_present, keeping_for_end, alone}
 
 by_answer : {P : Type 0} (b : Bool) → (b ≡ true → P) → (b ≡ false → P) → P
 by_answer true p q = p refl
 by_answer false p q = q refl
 
--- the innermost of the groups has the token more for its end
-abbrev pub added : Tok → List Group → List Group
-added t [] = []
-added t (g ∷ groups) = record g { after = g.after ++ t ∷ [] } ∷ groups
-
-pub groups-added : {B : Type 0} (t : Tok) (g : Group) (s : List (Save B)) → groups_of (record g { after = g.after ++ t ∷ [] }) s ≡ added t (groups_of g s)
+pub groups-added : {B : Type 0} (t : Tok) (g : Group) (s : List (Save B)) → groups_of (record g { after = g.after ++ t ∷ [] }) s ≡ leaving t (groups_of g s)
 groups-added t g [] = refl
 groups-added t g (save.Mark outer ∷ s) = refl
 groups-added t g (save.Saved at old level ∷ s) = groups-added t g s
 
-pub length-added : (t : Tok) (gs : List Group) → length (added t gs) ≡ length gs
+pub length-added : (t : Tok) (gs : List Group) → length (leaving t gs) ≡ length gs
 length-added t [] = refl
 length-added t (g ∷ gs) = refl
 
@@ -84,7 +79,7 @@ module _ {B : Type 0} where
         λ i. record { groups = record { map = is i; kind = kind; after = [] } ∷ e.groups; outside = e.outside }
 
     -- a token is added for the innermost group's end
-    pub kept-is : (t : Tok) (m : Map B) (maps : List (Map B)) (gs : List Group) → environment_of view m maps (added t gs) ≡ keeping_for_end (viewed view t) (environment_of view m maps gs)
+    pub kept-is : (t : Tok) (m : Map B) (maps : List (Map B)) (gs : List Group) → environment_of view m maps (leaving t gs) ≡ keeping_for_end (viewed view t) (environment_of view m maps gs)
     kept-is t m [] gs = refl
     kept-is t m (o ∷ maps) [] = refl
     kept-is t m (o ∷ maps) (g ∷ gs) =

@@ -24,9 +24,9 @@ use Rattle.tx_views.specs.Environments.{environment_of, environment_in}
 use Rattle.tx_environment.specs.States.{State, environment}
 use Rattle.tx_environment.specs.Soundness.{category_given, AreCategories, Pairwise, IsSound, IsClosing}
 use Rattle.tx_environment.specs.Changes.{IsGiven, IsGivenAround}
-use Rattle.tx_environment.specs.Steps.{alone, within, keeping_for_end, Closes}
+use Rattle.tx_environment.specs.Steps.{alone, leaving, within, keeping_for_end, Closes, Ends}
 use Rattle.tx_environment.proofs.PlaceLemmas.{update-is}
-use Rattle.tx_environment.proofs.LevelLemmas.{added, groups-added, length-added, length-below, alone-is, kept-is, around-is, assigned-is}
+use Rattle.tx_environment.proofs.LevelLemmas.{groups-added, length-added, length-below, alone-is, kept-is, around-is, assigned-is}
 use Rattle.tx_environment.proofs.CategoryLemmas.{given-is, given-around}
 
 -- there are as many maps outside as open groups
@@ -42,6 +42,9 @@ none-open f (g ∷ gs) r e = subst (λ o. IfNone o (g ∷ gs ≡ [])) (sym e) tt
 -- a token was added for the innermost group's end
 abbrev pub Adds : {B : Type 0} → Tok → Saves B → Saves B → Type 0
 Adds t s n = n ≡ record s { group = record s.group { after = s.group.after ++ t ∷ [] } }
+
+pub groups-after : {B : Type 0} (t : Tok) (s n : Saves B) → Adds t s n → groups n ≡ leaving t (groups s)
+groups-after t s n adds = ap groups adds ∙ groups-added t s.group s.stack
 
 pub on_ok_map : {T E P Q : Type 0} (r : Result T E) → (P → Q) → OnOk r P → OnOk r Q
 on_ok_map (Ok x) f h = f h
@@ -81,6 +84,10 @@ assigned-sound p x global old new frozen sets changes keeps fits cats first tabl
     }
 
 -- a step of a group's end
+pub ends-is : (step : Closed BoxNode) (old new : State) → SaveCloses old.table old.saves step new.table new.saves → Ends (groups old.saves) step (groups new.saves)
+ends-is (closed.Dropped m) old new c = c.1
+ends-is (closed.End kind after) old new c = c.1
+
 pub closed-is : (step : Closed BoxNode) (old new : State) → SaveCloses old.table old.saves step new.table new.saves → (view : View) (frozen : Map BoxNode) → Closes view frozen old step new
 closed-is (closed.Dropped m) old new h view frozen =
     let maps = h.0 frozen in

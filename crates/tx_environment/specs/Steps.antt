@@ -1,12 +1,14 @@
 -- What the calls do to the environment.
-use Rattle.std.specs.Prelude.{◌≡◌, ℕ, ◌+◌, ◌<◌, List, [], ◌∷◌, length, Option}
+use Rattle.std.specs.Prelude.{◌≡◌, ℕ, ◌+◌, ◌<◌, List, [], ◌∷◌, ◌++◌, length, Option}
 use Rattle.std.specs.Option.{option_map}
 use Rattle.std.specs.List.{slice_get}
 use Rattle.tx_model.specs.Tokens.{Token}
+use Rattle.tx_tok.specs.declared.tok.Tok.{Tok}
 use Rattle.tx_node.specs.declared.BoxNode.{BoxNode}
 use Rattle.tx_eqtb.specs.declared.meaning.Meaning.{Meaning}
 use Rattle.tx_eqtb.specs.Meanings.{Map}
 use Rattle.tx_eqtb.specs.Tables.{now}
+use Rattle.tx_save.specs.declared.group.Group.{Group}
 use Rattle.tx_save.specs.declared.group.GroupKind.{GroupKind}
 use Rattle.tx_save.specs.declared.group.Closed.{Closed}
 use Rattle.tx_save.specs.declared.group.Closed.TheVariants as closed
@@ -29,6 +31,16 @@ IsOutermost e = groups e.saves ≡ []
 -- the kind of the innermost open group, where one is open
 abbrev pub innermost : Environment → Option GroupKind
 innermost e = option_map (λ level. level.kind) (slice_get e.groups 0)
+
+-- the innermost of the groups has the token more for its end
+abbrev pub leaving : Tok → List Group → List Group
+leaving t [] = []
+leaving t (g ∷ groups) = record g { after = g.after ++ t ∷ [] } ∷ groups
+
+-- the groups after a step of a group's end: as they were, or without the innermost one, which had this kind and these tokens
+abbrev pub Ends : List Group → Closed BoxNode → List Group → Type 0
+Ends old (closed.Dropped m) new = new ≡ old
+Ends old (closed.End kind after) new = old ≡ record { kind = kind; after = after } ∷ new
 
 -- the environment outside of all groups, with this map
 abbrev pub alone : private.Map → Environment

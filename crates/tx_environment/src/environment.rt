@@ -18,7 +18,7 @@ ghost use Rattle.tx_views.specs.Meanings.{map_in, meaning_in, sense_in};
 ghost use Rattle.tx_environment.specs.States.{environment};
 ghost use Rattle.tx_environment.specs.Soundness.{IsSound, IsClosing, IsPresent, IsFirst};
 ghost use Rattle.tx_environment.specs.Changes.{HasAround, IsLeft, IsGivenUp};
-ghost use Rattle.tx_environment.specs.Steps.{IsOpen, IsOutermost, innermost, alone, keeping_for_end, Closes, Leaves, IsFewer, entries_saved, held};
+ghost use Rattle.tx_environment.specs.Steps.{IsOpen, IsOutermost, innermost, alone, leaving, keeping_for_end, Closes, Ends, Leaves, IsFewer, entries_saved, held};
 ghost use Rattle.tx_environment.specs.Holding.{pooled_in, pooled_of, pooled_of_sense, HasNoPooled, IsHeldIn};
 
 use crate::categories::{categories_of, category_of, give, give_around};
@@ -176,6 +176,7 @@ impl Environment {
         ensures begun { OnOk result ((view : View) (frozen : Map BoxNode) → environment view frozen self.new ≡ beginning kind (environment view frozen self.old)) }
         ensures sound { OnOk result ((frozen : Map BoxNode) → IsSound frozen self.old → IsSound frozen self.new) }
         ensures before { KeepsBefore self.old.table self.new.table }
+        ensures opened { OnOk result (groups self.new.saves ≡ record { kind = kind; after = [] } ∷ groups self.old.saves) }
         ensures groups { OnOk result (length (groups self.new.saves) ≡ length (groups self.old.saves) + 1) }
         ensures held { held self.new ≡ held self.old }
         ensures full { (result ≡ Err SaveRefused.GroupsFull) ↔ (length (groups self.old.saves) ≡ 254) }
@@ -198,6 +199,7 @@ impl Environment {
         ensures kept { OnOk result ((view : View) (frozen : Map BoxNode) → environment view frozen self.new ≡ keeping_for_end (viewed view token) (environment view frozen self.old)) }
         ensures sound { (frozen : Map BoxNode) → IsSound frozen self.old → IsSound frozen self.new }
         ensures others { self.new ≡ record self.old { saves = self.new.saves } }
+        ensures leaves { OnOk result (groups self.new.saves ≡ leaving token (groups self.old.saves)) }
         ensures groups { length (groups self.new.saves) ≡ length (groups self.old.saves) }
         ensures held { held self.new ≡ held self.old }
         ensures unchanged { OnErr result (self.new ≡ self.old) }
@@ -243,6 +245,7 @@ impl Environment {
         requires fits { Fits self.old.table self.old.saves }
         ensures closes { (view : View) (frozen : Map BoxNode) → Closes view frozen self.old result self.new }
         ensures leaves { (frozen : Map BoxNode) → IsClosing frozen self.old → Leaves frozen result self.new }
+        ensures ends { Ends (groups self.old.saves) result (groups self.new.saves) }
         ensures fits { Fits self.new.table self.new.saves }
         ensures fewer { IsFewer self.old result self.new }
         ensures before { KeepsBefore self.old.table self.new.table }

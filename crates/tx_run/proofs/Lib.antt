@@ -5,3 +5,6 @@ pub mod TextLemmas
 pub mod CommandLemmas
 pub mod GroupLemmas
 pub mod SenseLemmas
+pub mod MoreLemmas
+pub mod KnowledgeLemmas
+pub mod LawLemmas

@@ -1,3 +1,4 @@
 pub mod Readings
 pub mod Doings
 pub mod Runs
+pub mod Knowledge

@@ -203,6 +203,10 @@ pub record IsGroundOf (format : Engineless) (g : Ground) (s : Scene) : Type 0 wh
 abbrev pub LeadsFor : Engineless → (Ground → Result → Type 0) → Scene → Tick → Run → Type 0
 LeadsFor format P old tick new = (g : Ground) → IsGroundOf format g old → Leads (P g) g (meanings format.frozen) tick new
 
+-- An error that has ended the region is one of the definitions', whichever it is.
+abbrev pub FailsLawfully : Engineless → Scene → Tick → Run → Type 0
+FailsLawfully format old tick new = LeadsFor format (λ g r. Unit {0}) old tick new
+
 -- An answer is carried out: whatever reading of this kind gave it, and whatever move it says.
 abbrev pub CarriesOut : Engineless → Start → Answer → Run → Tick → Run → Type 0
 CarriesOut format begun answer old tick new =

@@ -1,16 +1,18 @@
 //! Answers to operations.
 
-ghost use Rattle.std.specs.Prelude.{◌≡◌, ◌<◌, ℕ, List, Some, None, IsSome, IsSomeAnd, option_copied};
+ghost use Rattle.std.specs.Prelude.{ℕ, Bool, true, ◌+◌, ◌<◌, None, IfSome, IsSome, ◌≡◌, List, Some, IsSomeAnd, option_copied};
+ghost use Rattle.tx_environment.specs.Holding.{pooled_in, pooled_of};
+ghost use Rattle.tx_input.specs.Worlds.{AllKnown, wanted_text};
+ghost use Rattle.tx_run.specs.Knowledge.{counts_as, held_by, KnowsRun};
 ghost use Rattle.tx_tok.specs.declared.tok.Tok.{Tok};
 ghost use Rattle.tx_tok.specs.declared.tok.ListRef.TheVariants as list;
 ghost use Rattle.tx_views.specs.Views.{View, list_in};
 ghost use Rattle.tx_views.specs.Meanings.{meaning_in};
-ghost use Rattle.tx_input.specs.Worlds.{wanted_text};
 ghost use Rattle.tx_input.specs.Takings.{Agrees, limit_in};
 ghost use Rattle.tx_scene.specs.Scenes.{Ground, IsGround};
 ghost use Rattle.tx_run.specs.declared.op.Op.TheVariants as op;
 ghost use Rattle.tx_run.specs.Doings.{stored_meaning as stored_meaning_of};
-ghost use Rattle.tx_run.specs.Runs.{asked, shared_tokens, Answers, AnswerKeeps, IsForText, IsForList, IsForTake};
+ghost use Rattle.tx_run.specs.Runs.{asked, asked_by, shared_tokens, Answers, AnswerKeeps, IsForText, IsForList, IsForTake};
 
 use crate::doing::{Doing, Stored};
 use crate::run::Run;
@@ -46,6 +48,8 @@ impl Run {
         requires moves { 0 < self.old.moves }
         ensures answers { (g : Ground) → IsGround g self.old.scene → Agrees number g.view self.old.scene.input → Answers g self.old self.new × IsGround g self.new.scene }
         ensures keeps { AnswerKeeps self.old self.new }
+        ensures knows { (names : ℕ → Bool) → IfSome number (λ n. names n ≡ true) → KnowsRun names self.old → KnowsRun names self.new }
+        ensures holds { (id : ℕ) → held_by id self.new ≡ held_by id self.old }
     {
         self.moves -= 1;
         if let Doing::Finds(taker) = self.doing {
@@ -66,6 +70,8 @@ impl Run {
         requires moves { 0 < self.old.moves }
         ensures answers { (g : Ground) → IsGround g self.old.scene → g.view.naming number ≡ wanted_text self.old.scene.input → Answers g self.old self.new × IsGround g self.new.scene }
         ensures keeps { AnswerKeeps self.old self.new }
+        ensures knows { (names : ℕ → Bool) → names number ≡ true → KnowsRun names self.old → KnowsRun names self.new }
+        ensures holds { (id : ℕ) → held_by id self.new ≡ held_by id self.old }
     {
         self.moves -= 1;
         if let Doing::Interns(taker) = self.doing {
@@ -82,6 +88,8 @@ impl Run {
         requires moves { 0 < self.old.moves }
         ensures answers { (g : Ground) (number : ℕ) → asked self.old ≡ Some (op.Text number) → IsGround g self.old.scene → g.view.naming number ≡ text.now → Answers g self.old self.new × IsGround g self.new.scene }
         ensures keeps { AnswerKeeps self.old self.new }
+        ensures knows { (names : ℕ → Bool) → KnowsRun names self.old → KnowsRun names self.new }
+        ensures holds { (id : ℕ) → held_by id self.new ≡ held_by id self.old }
     {
         self.moves -= 1;
         match mem::replace(&mut self.doing, Doing::NoMemory) {
@@ -113,6 +121,8 @@ impl Run {
         requires moves { 0 < self.old.moves }
         ensures answers { (g : Ground) (id : ℕ) → asked self.old ≡ Some (op.Read id) → IsGround g self.old.scene → g.view.content (list.Pooled id) ≡ tokens → Answers g self.old self.new × IsGround g self.new.scene }
         ensures keeps { AnswerKeeps self.old self.new }
+        ensures knows { (names : ℕ → Bool) → AllKnown names tokens → KnowsRun names self.old → KnowsRun names self.new }
+        ensures holds { (id : ℕ) → held_by id self.new ≡ held_by id self.old }
     {
         self.moves -= 1;
         match mem::replace(&mut self.doing, Doing::NoMemory) {
@@ -137,6 +147,8 @@ impl Run {
         requires moves { 0 < self.old.moves }
         ensures answers { (g : Ground) (tokens : List Tok) → shared_tokens self.old.doing ≡ Some tokens → IsGround g self.old.scene → g.view.content list ≡ tokens → Answers g self.old self.new × IsGround g self.new.scene }
         ensures keeps { AnswerKeeps self.old self.new }
+        ensures knows { (names : ℕ → Bool) → KnowsRun names self.old → KnowsRun names self.new }
+        ensures holds { (id : ℕ) → held_by id self.new ≡ held_by id self.old + counts_as id (pooled_in list) }
     {
         self.moves -= 1;
         match mem::replace(&mut self.doing, Doing::NoMemory) {
@@ -153,6 +165,8 @@ impl Run {
         requires moves { 0 < self.old.moves }
         ensures answers { (g : Ground) → IsGround g self.old.scene → Answers g self.old self.new × IsGround g self.new.scene }
         ensures keeps { AnswerKeeps self.old self.new }
+        ensures knows { (names : ℕ → Bool) → KnowsRun names self.old → KnowsRun names self.new }
+        ensures holds { (names : ℕ → Bool) → KnowsRun names self.old → (number : ℕ) → asked self.old ≡ Some (op.Take number) → (id : ℕ) → held_by id self.new ≡ held_by id self.old + counts_as id (Some number) }
     {
         self.moves -= 1;
         match mem::replace(&mut self.doing, Doing::NoMemory) {
@@ -169,6 +183,8 @@ impl Run {
         ensures answers { (g : Ground) → IsGround g self.old.scene → Answers g self.old self.new × IsGround g self.new.scene }
         ensures fallen { self.new.fallen ≡ None }
         ensures keeps { AnswerKeeps self.old self.new }
+        ensures knows { (names : ℕ → Bool) → KnowsRun names self.old → KnowsRun names self.new }
+        ensures holds { (id : ℕ) → held_by id self.new + counts_as id self.old.fallen ≡ held_by id self.old }
     {
         self.moves -= 1;
         self.fallen = None;
@@ -181,6 +197,8 @@ impl Run {
         ensures fallen { self.new.fallen ≡ self.old.fallen }
         ensures scene { self.new.scene ≡ self.old.scene }
         ensures keeps { AnswerKeeps self.old self.new }
+        ensures knows { (names : ℕ → Bool) → KnowsRun names self.old → KnowsRun names self.new }
+        ensures holds { IsSome (asked_by self.old.doing) → (id : ℕ) → held_by id self.new ≡ held_by id self.old }
     {
         self.moves -= 1;
         self.doing = Doing::NoMemory;
@@ -189,7 +207,8 @@ impl Run {
 
 /// A list as a meaning.
 fn stored_meaning(stored: Stored, list: ListRef) -> Meaning<BoxNode>
-    ensures { (view : View) → meaning_in view result ≡ stored_meaning_of stored (list_in view list) }
+    ensures means { (view : View) → meaning_in view result ≡ stored_meaning_of stored (list_in view list) }
+    ensures pooled { pooled_of result ≡ pooled_in list }
 {
     match stored {
         Stored::List => Meaning::List(list),

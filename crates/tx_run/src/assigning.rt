@@ -1,6 +1,11 @@
 //! Assignments. *TeX: The Program*, part 49.
 
-ghost use Rattle.std.specs.Prelude.{◌≡◌, ◌∷◌, ℕ, [], pos, option_and_then, OnOk};
+ghost use Rattle.std.specs.Prelude.{ℕ, Bool, ◌+◌, None, ◌≡◌, ◌∷◌, [], pos, option_and_then, OnOk};
+ghost use Rattle.tx_environment.specs.Holding.{pooled_of};
+ghost use Rattle.tx_frames.specs.Knowledge.{KnowsToken, KnowsTokens, KnowsSense, KnowsPlace};
+ghost use Rattle.tx_commands.specs.Knowledge.{KnowsMeaning};
+ghost use Rattle.tx_scene.specs.Knowledge.{KnowsScene, references, count_of};
+ghost use Rattle.tx_run.specs.Knowledge.{counts_as, known_by, KnowsOpen, KnowsAfter, HoldsWith, Holds, HoldsOn};
 ghost use Rattle.std.specs.List.{AllByRecursion};
 ghost use Rattle.tx_node.specs.declared.BoxNode.{BoxNode};
 ghost use Rattle.tx_eqtb.specs.Meanings.{Map, meanings};
@@ -15,7 +20,6 @@ ghost use Rattle.tx_opens.specs.Opens.{Open, Comes};
 ghost use Rattle.tx_views.specs.Views.{viewed, all_viewed};
 ghost use Rattle.tx_views.specs.Places.{address_in};
 ghost use Rattle.tx_views.specs.Meanings.{meaning_in};
-ghost use Rattle.tx_environment.specs.Holding.{pooled_of};
 ghost use Rattle.tx_environment.specs.Soundness.{IsSound, IsFirst};
 ghost use Rattle.tx_scene.specs.Scenes.{Ground, IsGround, world};
 ghost use Rattle.tx_scene.specs.Changes.{Changes};
@@ -57,6 +61,8 @@ impl Run {
         ensures sound { OnOk result (IsSound (meanings format.now.frozen) self.new.scene.environment) }
         ensures first { IsFirst (meanings format.now.frozen) self.new.scene.environment }
         ensures keeps { Keeps self.old self.new }
+        ensures knows { (names : ℕ → Bool) → KnowsScene names self.old.scene → KnowsScene names self.new.scene }
+        ensures holds { self.old.fallen ≡ None → (id : ℕ) → references id self.new.scene + counts_as id self.new.fallen ≡ references id self.old.scene + count_of id meaning }
     {
         let global = self.scene.is_global(format.frozen(), prefixes);
         match self.scene.assign(place, meaning, global) {
@@ -85,6 +91,8 @@ impl Run {
         ensures sound { IsSoundAfter (meanings format.now.frozen) result self.new }
         ensures keeps { Keeps self.old self.new }
         ensures asked { self.old.fallen ≡ None → IsAsked result self.new }
+        ensures knows { (names : ℕ → Bool) → KnowsScene names self.old.scene → KnowsAfter names result self.new }
+        ensures holds { HoldsWith (λ id. count_of id meaning) self.old self.new }
     {
         match self.assign(format, prefixes, place, meaning) {
             Ok(()) => self.releases(),
@@ -100,6 +108,8 @@ impl Run {
         ensures sound { (frozen : Map BoxNode) → IsSound frozen self.old.scene.environment → IsSoundAfter frozen result self.new }
         ensures keeps { Keeps self.old self.new }
         ensures asked { IsAsked result self.new }
+        ensures knows { (names : ℕ → Bool) → KnowsScene names self.old.scene → KnowsAfter names result self.new }
+        ensures holds { HoldsOn self.old self.new }
     {
         match self.scene.release_kept() {
             Ok(()) => self.restarts(),
@@ -121,6 +131,8 @@ impl Run {
         ensures sound { IsSoundAfter (meanings format.now.frozen) result self.new }
         ensures keeps { Keeps self.old self.new }
         ensures asked { self.old.fallen ≡ None → IsAsked result self.new }
+        ensures knows { (names : ℕ → Bool) → KnowsScene names self.old.scene → KnowsPlace (known_by names self.old.scene) place → KnowsMeaning (known_by names self.old.scene) meaning → KnowsAfter names result self.new }
+        ensures holds { Holds self.old self.new }
     {
         match pooled(&meaning) {
             Some(id) => {
@@ -144,6 +156,8 @@ impl Run {
         ensures sound { (frozen : Map BoxNode) → IsSound frozen self.old.scene.environment → IsSoundAfter frozen result self.new }
         ensures keeps { Keeps self.old self.new }
         ensures asked { self.old.fallen ≡ None → IsAsked result self.new }
+        ensures knows { (names : ℕ → Bool) → KnowsScene names self.old.scene → KnowsPlace (known_by names self.old.scene) place → KnowsTokens (known_by names self.old.scene) tokens → KnowsAfter names result self.new }
+        ensures holds { Holds self.old self.new }
     {
         self.doing = Doing::Shares(prefixes, place, stored, tokens);
         Tick::Ask(Op::Share)
@@ -163,6 +177,8 @@ impl Run {
         ensures sound { IsSoundAfter (meanings format.now.frozen) result self.new }
         ensures keeps { Keeps self.old self.new }
         ensures asked { self.old.fallen ≡ None → IsAsked result self.new }
+        ensures knows { (names : ℕ → Bool) → KnowsScene names self.old.scene → KnowsPlace (known_by names self.old.scene) place → KnowsSense (known_by names self.old.scene) sense → KnowsAfter names result self.new }
+        ensures holds { Holds self.old self.new }
     {
         match meaning_of(sense) {
             Some(meaning) => self.assigns_unheld(format, prefixes, place, meaning),
@@ -187,6 +203,8 @@ impl Run {
         ensures sound { IsSoundAfter (meanings format.now.frozen) result self.new }
         ensures keeps { Keeps self.old self.new }
         ensures asked { self.old.fallen ≡ None → IsAsked result self.new }
+        ensures knows { (names : ℕ → Bool) → KnowsScene names self.old.scene → KnowsPlace (known_by names self.old.scene) place → KnowsSense (known_by names self.old.scene) sense → KnowsToken (known_by names self.old.scene) first → KnowsToken (known_by names self.old.scene) second → KnowsAfter names result self.new }
+        ensures holds { Holds self.old self.new }
     {
         match self.put_two(first, second) {
             Ok(()) => self.lets(format, prefixes, place, sense),
@@ -200,6 +218,7 @@ impl Run {
         ensures becomes { self.new ≡ record self.old { scene = self.new.scene } }
         ensures environment { self.new.scene.environment ≡ self.old.scene.environment }
         ensures keeps { Keeps self.old self.new }
+        ensures knows { (names : ℕ → Bool) → KnowsScene names self.old.scene → KnowsToken (known_by names self.old.scene) first → KnowsToken (known_by names self.old.scene) second → KnowsScene names self.new.scene }
     {
         let mut tokens = Vec::new(self.scene.alloc);
         tokens.push(first)?;
@@ -221,6 +240,8 @@ impl Run {
         ensures sound { IsSoundAfter (meanings format.now.frozen) result self.new }
         ensures keeps { Keeps self.old self.new }
         ensures asked { self.old.fallen ≡ None → IsAsked result self.new }
+        ensures knows { (names : ℕ → Bool) → KnowsScene names self.old.scene → KnowsPlace (known_by names self.old.scene) place → KnowsTokens (known_by names self.old.scene) body → KnowsAfter names result self.new }
+        ensures holds { Holds self.old self.new }
     {
         if !self.scene.store(&body) {
             return self.too_much_stored(format);
@@ -241,6 +262,8 @@ impl Run {
         ensures sound { IsSoundAfter (meanings format.now.frozen) result self.new }
         ensures keeps { Keeps self.old self.new }
         ensures asked { self.old.fallen ≡ None → IsAsked result self.new }
+        ensures knows { (names : ℕ → Bool) → KnowsScene names self.old.scene → KnowsOpen (known_by names self.old.scene) self.old.frames self.old.command → KnowsTokens (known_by names self.old.scene) tokens → KnowsAfter names result self.new }
+        ensures holds { Holds self.old self.new }
     {
         if !self.scene.store(&tokens) {
             return self.too_much_stored(format);
@@ -256,6 +279,8 @@ impl Run {
         ensures sound { IsSoundAfter (meanings format.now.frozen) result self.new }
         ensures keeps { Keeps self.old self.new }
         ensures asked { self.old.fallen ≡ None → IsAsked result self.new }
+        ensures knows { (names : ℕ → Bool) → KnowsScene names self.old.scene → KnowsAfter names result self.new }
+        ensures holds { Holds self.old self.new }
     {
         let most = if self.scene.preamble {
             4_194_304
@@ -280,6 +305,8 @@ impl Run {
         ensures sound { IsSoundAfter (meanings format.now.frozen) result self.new }
         ensures keeps { Keeps self.old self.new }
         ensures asked { self.old.fallen ≡ None → IsAsked result self.new }
+        ensures knows { (names : ℕ → Bool) → KnowsScene names self.old.scene → KnowsPlace (known_by names self.old.scene) place → KnowsAfter names result self.new }
+        ensures holds { Holds self.old self.new }
     {
         let old = self.scene.quantity(format.frozen(), place);
         match computed(operation, old, by) {
@@ -296,6 +323,8 @@ impl Run {
         ensures sound { (frozen : Map BoxNode) → IsSound frozen self.old.scene.environment → IsSoundAfter frozen result self.new }
         ensures keeps { Keeps self.old self.new }
         ensures asked { self.old.fallen ≡ None → IsAsked result self.new }
+        ensures knows { (names : ℕ → Bool) → KnowsScene names self.old.scene → KnowsAfter names result self.new }
+        ensures holds { Holds self.old self.new }
     {
         let place = Place::Dimension(DimensionParameter::HangIndent);
         match self.scene.assign(place, Meaning::Dim(Sp::ZERO), false) {
@@ -316,6 +345,8 @@ impl Run {
         ensures sound { (frozen : Map BoxNode) → IsSound frozen self.old.scene.environment → IsSoundAfter frozen result self.new }
         ensures keeps { Keeps self.old self.new }
         ensures asked { self.old.fallen ≡ None → IsAsked result self.new }
+        ensures knows { (names : ℕ → Bool) → KnowsScene names self.old.scene → KnowsAfter names result self.new }
+        ensures holds { Holds self.old self.new }
     {
         let place = Place::Integer(IntegerParameter::HangAfter);
         match self.scene.assign(place, Meaning::Int(1), false) {

@@ -1,6 +1,9 @@
 //! Answers of readings, carried out.
 
-ghost use Rattle.std.specs.Prelude.{◌≡◌, ℕ, None};
+ghost use Rattle.std.specs.Prelude.{ℕ, Bool, None, ◌≡◌};
+ghost use Rattle.tx_frames.specs.Knowledge.{KnowsTokens, KnowsFrame, KnowsValue, KnowsAnswer};
+ghost use Rattle.tx_scene.specs.Knowledge.{KnowsScene};
+ghost use Rattle.tx_run.specs.Knowledge.{known_by, KnowsFormat, KnowsStart, KnowsOpen, KnowsAfter, Holds};
 ghost use Rattle.std.specs.List.{AllByRecursion};
 ghost use Rattle.tx_node.specs.declared.BoxNode.{BoxNode};
 ghost use Rattle.tx_eqtb.specs.Meanings.{Map, meanings};
@@ -15,7 +18,7 @@ ghost use Rattle.tx_frames.specs.Frames.{wish_of, open_of};
 ghost use Rattle.tx_scene.specs.Scenes.{Ground, IsGround, world};
 ghost use Rattle.tx_run.specs.Readings.{kind_of, start_of as start_of_frame, Waits};
 ghost use Rattle.tx_run.specs.Doings.{used};
-ghost use Rattle.tx_run.specs.Runs.{opens, world_in, AnyComes, CarriesOut, Leads, LeadsFor, IsSoundAfter, Keeps, IsAsked};
+ghost use Rattle.tx_run.specs.Runs.{opens, world_in, AnyComes, CarriesOut, Leads, FailsLawfully, IsSoundAfter, Keeps, IsAsked};
 
 use crate::doing::{Doing, Start, Use};
 use crate::op::Tick;
@@ -30,10 +33,12 @@ impl Run {
         requires sound { IsSound (meanings format.now.frozen) self.old.scene.environment }
         requires waits { AllByRecursion Waits self.old.frames }
         ensures carries { CarriesOut format.now begun answer self.old result self.new }
-        ensures fails { LeadsFor format.now (λ g r. Unit {0}) self.old.scene result self.new }
+        ensures fails { FailsLawfully format.now self.old.scene result self.new }
         ensures sound { IsSoundAfter (meanings format.now.frozen) result self.new }
         ensures keeps { Keeps self.old self.new }
         ensures asked { self.old.fallen ≡ None → IsAsked result self.new }
+        ensures knows { (names : ℕ → Bool) → KnowsFormat names format.now → KnowsScene names self.old.scene → KnowsOpen (known_by names self.old.scene) self.old.frames self.old.command → KnowsStart (known_by names self.old.scene) begun → KnowsAnswer (known_by names self.old.scene) answer → KnowsAfter names result self.new }
+        ensures holds { Holds self.old self.new }
     {
         match answer {
             Answer::Goes(frame, back) => self.goes(frame, back),
@@ -52,6 +57,8 @@ impl Run {
         ensures sound { (frozen : Map BoxNode) → IsSound frozen self.old.scene.environment → IsSoundAfter frozen result self.new }
         ensures keeps { Keeps self.old self.new }
         ensures asked { self.old.fallen ≡ None → IsAsked result self.new }
+        ensures knows { (names : ℕ → Bool) → KnowsScene names self.old.scene → KnowsOpen (known_by names self.old.scene) self.old.frames self.old.command → KnowsFrame (known_by names self.old.scene) frame → KnowsTokens (known_by names self.old.scene) back → KnowsAfter names result self.new }
+        ensures holds { Holds self.old self.new }
     {
         if self.scene.put(back).is_err() || self.frames.push(frame).is_err() {
             return Tick::Memory;
@@ -67,6 +74,8 @@ impl Run {
         ensures sound { (frozen : Map BoxNode) → IsSound frozen self.old.scene.environment → IsSoundAfter frozen result self.new }
         ensures keeps { Keeps self.old self.new }
         ensures asked { self.old.fallen ≡ None → IsAsked result self.new }
+        ensures knows { (names : ℕ → Bool) → KnowsScene names self.old.scene → KnowsOpen (known_by names self.old.scene) self.old.frames self.old.command → KnowsStart (known_by names self.old.scene) begun → KnowsTokens (known_by names self.old.scene) back → KnowsAfter names result self.new }
+        ensures holds { Holds self.old self.new }
     {
         if self.scene.put(back).is_err() {
             return Tick::Memory;
@@ -82,6 +91,8 @@ impl Run {
         ensures sound { (frozen : Map BoxNode) → IsSound frozen self.old.scene.environment → IsSoundAfter frozen result self.new }
         ensures keeps { Keeps self.old self.new }
         ensures asked { self.old.fallen ≡ None → IsAsked result self.new }
+        ensures knows { (names : ℕ → Bool) → KnowsScene names self.old.scene → KnowsOpen (known_by names self.old.scene) self.old.frames self.old.command → KnowsValue (known_by names self.old.scene) value → KnowsTokens (known_by names self.old.scene) back → KnowsAfter names result self.new }
+        ensures holds { Holds self.old self.new }
     {
         if self.scene.put(back).is_err() {
             return Tick::Memory;
@@ -97,6 +108,8 @@ impl Run {
         ensures sound { (frozen : Map BoxNode) → IsSound frozen self.old.scene.environment → IsSoundAfter frozen result self.new }
         ensures keeps { Keeps self.old self.new }
         ensures asked { self.old.fallen ≡ None → IsAsked result self.new }
+        ensures knows { (names : ℕ → Bool) → KnowsScene names self.old.scene → KnowsOpen (known_by names self.old.scene) self.old.frames self.old.command → KnowsStart (known_by names self.old.scene) begun → KnowsTokens (known_by names self.old.scene) tokens → KnowsAfter names result self.new }
+        ensures holds { Holds self.old self.new }
     {
         match how {
             Use::Value => {

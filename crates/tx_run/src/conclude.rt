@@ -1,6 +1,9 @@
 //! What comes of main control's commands, carried out.
 
-ghost use Rattle.std.specs.Prelude.{◌≡◌, []};
+ghost use Rattle.std.specs.Prelude.{ℕ, Bool, None, ◌≡◌, []};
+ghost use Rattle.tx_commands.specs.Knowledge.{no_lists, KnowsControl, KnowsOutcome};
+ghost use Rattle.tx_scene.specs.Knowledge.{KnowsScene};
+ghost use Rattle.tx_run.specs.Knowledge.{known_by, KnowsFormat, KnowsAfter, Holds};
 ghost use Rattle.tx_eqtb.specs.Meanings.{meanings};
 ghost use Rattle.tx_environment.specs.Soundness.{IsSound};
 ghost use Rattle.tx_run.specs.Runs.{Concludes, IsSoundAfter, IsAsked, Keeps};
@@ -23,6 +26,8 @@ impl Run {
         ensures sound { IsSoundAfter (meanings format.now.frozen) result self.new }
         ensures keeps { Keeps self.old self.new }
         ensures asked { self.old.fallen ≡ None → IsAsked result self.new }
+        ensures knows { (names : ℕ → Bool) → KnowsFormat names format.now → KnowsScene names self.old.scene → KnowsOutcome (known_by names self.old.scene) outcome → KnowsAfter names result self.new }
+        ensures holds { Holds self.old self.new }
     {
         match outcome {
             Outcome::Goes(command) => {
@@ -54,6 +59,8 @@ impl Run {
         ensures sound { IsSoundAfter (meanings format.now.frozen) result self.new }
         ensures keeps { Keeps self.old self.new }
         ensures asked { self.old.fallen ≡ None → IsAsked result self.new }
+        ensures knows { (names : ℕ → Bool) → KnowsScene names self.old.scene → KnowsControl (no_lists (known_by names self.old.scene)) command → KnowsAfter names result self.new }
+        ensures holds { Holds self.old self.new }
     {
         let Some(meaning) = relax() else {
             return Tick::Memory;

@@ -1,6 +1,10 @@
 //! What commands do at last.
 
-ghost use Rattle.std.specs.Prelude.{◌≡◌, []};
+ghost use Rattle.std.specs.Prelude.{ℕ, Bool, None, ◌≡◌, []};
+ghost use Rattle.tx_frames.specs.Knowledge.{KnowsToken, KnowsTokens};
+ghost use Rattle.tx_commands.specs.Knowledge.{KnowsEffect};
+ghost use Rattle.tx_scene.specs.Knowledge.{KnowsScene};
+ghost use Rattle.tx_run.specs.Knowledge.{known_by, KnowsFormat, KnowsAfter, Holds, HoldsOn};
 ghost use Rattle.tx_node.specs.declared.BoxNode.{BoxNode};
 ghost use Rattle.tx_eqtb.specs.Meanings.{Map, meanings};
 ghost use Rattle.tx_private.specs.World.{put_in_front};
@@ -41,6 +45,8 @@ impl Run {
         ensures sound { IsSoundAfter (meanings format.now.frozen) result self.new }
         ensures keeps { Keeps self.old self.new }
         ensures asked { self.old.fallen ≡ None → IsAsked result self.new }
+        ensures knows { (names : ℕ → Bool) → KnowsFormat names format.now → KnowsScene names self.old.scene → KnowsEffect (known_by names self.old.scene) effect → KnowsAfter names result self.new }
+        ensures holds { Holds self.old self.new }
     {
         match effect {
             Effect::Assign(prefixes, place, meaning) => self.assigns_unheld(
@@ -83,6 +89,8 @@ impl Run {
         ensures sound { (frozen : Map BoxNode) → IsSound frozen self.old.scene.environment → IsSoundAfter frozen result self.new }
         ensures keeps { Keeps self.old self.new }
         ensures asked { self.old.fallen ≡ None → IsAsked result self.new }
+        ensures knows { (names : ℕ → Bool) → KnowsScene names self.old.scene → KnowsToken (known_by names self.old.scene) token → KnowsAfter names result self.new }
+        ensures holds { Holds self.old self.new }
     {
         match self.scene.after_group(token) {
             Ok(()) => self.restarts(),
@@ -97,6 +105,8 @@ impl Run {
         ensures sound { (frozen : Map BoxNode) → IsSound frozen self.old.scene.environment → IsSoundAfter frozen result self.new }
         ensures keeps { Keeps self.old self.new }
         ensures asked { self.old.fallen ≡ None → IsAsked result self.new }
+        ensures knows { (names : ℕ → Bool) → KnowsScene names self.old.scene → KnowsToken (known_by names self.old.scene) token → KnowsAfter names result self.new }
+        ensures holds { Holds self.old self.new }
     {
         self.scene.keep(token);
         self.restarts()
@@ -110,6 +120,8 @@ impl Run {
         ensures sound { IsSoundAfter (meanings format.now.frozen) result self.new }
         ensures keeps { Keeps self.old self.new }
         ensures asked { self.old.fallen ≡ None → IsAsked result self.new }
+        ensures knows { (names : ℕ → Bool) → KnowsScene names self.old.scene → KnowsTokens (known_by names self.old.scene) tokens → KnowsAfter names result self.new }
+        ensures holds { Holds self.old self.new }
     {
         let escape = self
             .scene
@@ -135,6 +147,8 @@ impl Run {
         ensures sound { IsSoundAfter (meanings format.now.frozen) result self.new }
         ensures keeps { Keeps self.old self.new }
         ensures asked { self.old.fallen ≡ None → IsAsked result self.new }
+        ensures knows { (names : ℕ → Bool) → KnowsScene names self.old.scene → KnowsTokens (known_by names self.old.scene) tokens → KnowsAfter names result self.new }
+        ensures holds { Holds self.old self.new }
     {
         match self
             .scene
@@ -152,6 +166,8 @@ impl Run {
         ensures sound { (frozen : Map BoxNode) → IsSound frozen self.old.scene.environment → IsSoundAfter frozen result self.new }
         ensures keeps { Keeps self.old self.new }
         ensures asked { IsAsked result self.new }
+        ensures knows { (names : ℕ → Bool) → KnowsScene names self.old.scene → KnowsTokens (known_by names self.old.scene) back → KnowsAfter names result self.new }
+        ensures holds { HoldsOn self.old self.new }
     {
         match self.scene.put(back) {
             Ok(()) => self.restarts(),
@@ -166,6 +182,8 @@ impl Run {
         ensures sound { (frozen : Map BoxNode) → IsSound frozen self.old.scene.environment → IsSoundAfter frozen result self.new }
         ensures keeps { Keeps self.old self.new }
         ensures asked { IsAsked result self.new }
+        ensures knows { (names : ℕ → Bool) → KnowsScene names self.old.scene → KnowsAfter names result self.new }
+        ensures holds { HoldsOn self.old self.new }
     {
         self.doing = Doing::Restarts;
         Tick::Went

@@ -1,6 +1,9 @@
 //! Values for the innermost reading.
 
-ghost use Rattle.std.specs.Prelude.{◌≡◌, [], None, true};
+ghost use Rattle.std.specs.Prelude.{ℕ, Bool, true, None, ◌≡◌, []};
+ghost use Rattle.tx_frames.specs.Knowledge.{KnowsList, KnowsValue};
+ghost use Rattle.tx_scene.specs.Knowledge.{KnowsScene};
+ghost use Rattle.tx_run.specs.Knowledge.{known_by, KnowsFormat, KnowsOpen, KnowsAfter, Holds};
 ghost use Rattle.std.specs.List.{AllByRecursion};
 ghost use Rattle.tx_eqtb.specs.Meanings.{meanings};
 ghost use Rattle.tx_private.specs.Readings as private;
@@ -29,6 +32,8 @@ impl Run {
         ensures sound { IsSoundAfter (meanings format.now.frozen) result self.new }
         ensures keeps { Keeps self.old self.new }
         ensures asked { self.old.fallen ≡ None → IsAsked result self.new }
+        ensures knows { (names : ℕ → Bool) → KnowsFormat names format.now → KnowsScene names self.old.scene → KnowsOpen (known_by names self.old.scene) self.old.frames self.old.command → KnowsValue (known_by names self.old.scene) value → KnowsAfter names result self.new }
+        ensures holds { Holds self.old self.new }
     {
         if self.scene.is_overfull() {
             return self.overfull(format);
@@ -56,6 +61,8 @@ impl Run {
         ensures sound { IsSoundAfter (meanings format.now.frozen) result self.new }
         ensures keeps { Keeps self.old self.new }
         ensures asked { self.old.fallen ≡ None → IsAsked result self.new }
+        ensures knows { (names : ℕ → Bool) → KnowsFormat names format.now → KnowsScene names self.old.scene → KnowsOpen (known_by names self.old.scene) self.old.frames self.old.command → KnowsList (known_by names self.old.scene) list → KnowsAfter names result self.new }
+        ensures holds { Holds self.old self.new }
     {
         if self.scene.is_overfull() {
             return self.overfull(format);

@@ -1,6 +1,8 @@
 //! Groups. *TeX: The Program*, parts 19 and 46.
 
-ghost use Rattle.std.specs.Prelude.{◌≡◌, []};
+ghost use Rattle.std.specs.Prelude.{ℕ, Bool, None, ◌≡◌, []};
+ghost use Rattle.tx_scene.specs.Knowledge.{KnowsScene};
+ghost use Rattle.tx_run.specs.Knowledge.{KnowsAfter, Holds};
 ghost use Rattle.tx_node.specs.declared.BoxNode.{BoxNode};
 ghost use Rattle.tx_eqtb.specs.Meanings.{Map, meanings};
 ghost use Rattle.tx_save.specs.Saves.{Fits};
@@ -32,6 +34,8 @@ impl Run {
         ensures sound { IsSoundAfter (meanings format.now.frozen) result self.new }
         ensures keeps { Keeps self.old self.new }
         ensures asked { self.old.fallen ≡ None → IsAsked result self.new }
+        ensures knows { (names : ℕ → Bool) → KnowsScene names self.old.scene → KnowsAfter names result self.new }
+        ensures holds { Holds self.old self.new }
     {
         if self.scene.groups() >= MOST_GROUPS {
             return self.error(format, 57, 3, 0);
@@ -50,6 +54,8 @@ impl Run {
         ensures sound { IsSoundAfter (meanings format.now.frozen) result self.new }
         ensures keeps { Keeps self.old self.new }
         ensures asked { self.old.fallen ≡ None → IsAsked result self.new }
+        ensures knows { (names : ℕ → Bool) → KnowsScene names self.old.scene → KnowsAfter names result self.new }
+        ensures holds { Holds self.old self.new }
     {
         match self.scene.group() {
             None => self.error(format, 3, 0, 0),
@@ -69,6 +75,8 @@ impl Run {
         ensures sound { IsSoundAfter (meanings format.now.frozen) result self.new }
         ensures keeps { Keeps self.old self.new }
         ensures asked { self.old.fallen ≡ None → IsAsked result self.new }
+        ensures knows { (names : ℕ → Bool) → KnowsScene names self.old.scene → KnowsAfter names result self.new }
+        ensures holds { Holds self.old self.new }
     {
         match self.scene.group() {
             None => self.error(format, 5, 0, 0),
@@ -88,6 +96,8 @@ impl Run {
         ensures sound { (frozen : Map BoxNode) → IsSound frozen self.old.scene.environment → IsSoundAfter frozen result self.new }
         ensures keeps { Keeps self.old self.new }
         ensures asked { self.old.fallen ≡ None → IsAsked result self.new }
+        ensures knows { (names : ℕ → Bool) → KnowsScene names self.old.scene → KnowsAfter names result self.new }
+        ensures holds { Holds self.old self.new }
     {
         self.doing = Doing::Closes;
         Tick::Went
@@ -102,6 +112,8 @@ impl Run {
         ensures sound { (frozen : Map BoxNode) → IsClosing frozen self.old.scene.environment → IsSoundAfter frozen result self.new }
         ensures keeps { Keeps self.old self.new }
         ensures asked { self.old.fallen ≡ None → IsAsked result self.new }
+        ensures knows { (names : ℕ → Bool) → KnowsScene names self.old.scene → KnowsAfter names result self.new }
+        ensures holds { Holds self.old self.new }
     {
         match self.scene.close() {
             Closed::Dropped(out) => {

@@ -16,6 +16,7 @@ mod fail;
 mod frames;
 mod gives;
 mod grouping;
+mod laws;
 mod op;
 mod run;
 mod senses;

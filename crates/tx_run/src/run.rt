@@ -1,6 +1,8 @@
 //! A run of a region.
 
-ghost use Rattle.std.specs.Prelude.{◌≡◌, ◌<◌, [], None};
+ghost use Rattle.std.specs.Prelude.{ℕ, Bool, ◌<◌, None, ◌≡◌, []};
+ghost use Rattle.tx_scene.specs.Knowledge.{KnowsScene, references};
+ghost use Rattle.tx_run.specs.Knowledge.{held_by, KnowsFormat, KnowsRun, KnowsAfter};
 ghost use Rattle.tx_eqtb.specs.Meanings.{meanings};
 ghost use Rattle.tx_run.specs.declared.doing.Doing.TheVariants as doing;
 ghost use Rattle.tx_run.specs.Runs.{Means, LeadsFor, IsSoundFor, IsSoundAfter, AreWaiting, Keeps, IsAsked, IsGoing, left};
@@ -36,6 +38,8 @@ impl Run {
         ensures doing { result.doing ≡ doing.Wishes }
         ensures frames { result.frames ≡ [] }
         ensures fallen { result.fallen ≡ None }
+        ensures knows { (names : ℕ → Bool) → KnowsScene names scene → KnowsRun names result }
+        ensures holds { (id : ℕ) → held_by id result ≡ references id scene }
     {
         let frames = Frames::new(scene.alloc);
         Run {
@@ -59,6 +63,8 @@ impl Run {
         ensures keeps { Keeps self.old self.new }
         ensures fewer { IsGoing result → left self.new < left self.old }
         ensures asked { IsAsked result self.new }
+        ensures knows { (names : ℕ → Bool) → KnowsFormat names format.now → KnowsRun names self.old → KnowsAfter names result self.new }
+        ensures holds { (id : ℕ) → held_by id self.new ≡ held_by id self.old }
     {
         if self.moves < 2 {
             return Tick::Memory;
@@ -79,6 +85,8 @@ impl Run {
         ensures sound { IsSoundAfter (meanings format.now.frozen) result self.new }
         ensures keeps { Keeps self.old self.new }
         ensures asked { IsAsked result self.new }
+        ensures knows { (names : ℕ → Bool) → KnowsFormat names format.now → KnowsRun names self.old → KnowsAfter names result self.new }
+        ensures holds { (id : ℕ) → held_by id self.new ≡ held_by id self.old }
     {
         match mem::replace(&mut self.doing, Doing::NoMemory) {
             Doing::Wishes => self.wishes(format),

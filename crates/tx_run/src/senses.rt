@@ -6,6 +6,8 @@ ghost use Rattle.tx_prims.specs.declared.primitives.Primitive.TheVariants as pri
 ghost use Rattle.tx_prims.specs.declared.primitives.Command.TheVariants as command;
 ghost use Rattle.tx_views.specs.Views.{View};
 ghost use Rattle.tx_views.specs.Meanings.{meaning_in, sense_in};
+ghost use Rattle.tx_frames.specs.Knowledge.{Known, KnowsSense};
+ghost use Rattle.tx_commands.specs.Knowledge.{KnowsMeaning};
 ghost use Rattle.tx_environment.specs.Holding.{pooled_in, pooled_of};
 
 use tx_eqtb::Meaning;
@@ -16,7 +18,8 @@ use tx_views::Sense;
 
 /// The meaning of a token, as an address has it. None comes only for a primitive without a place in the table.
 pub(crate) fn meaning_of(sense: Sense) -> Option<Meaning<BoxNode>>
-    ensures { IfSome result (λ m. (view : View) → meaning_in view m ≡ sense_in view sense) }
+    ensures means { IfSome result (λ m. (view : View) → meaning_in view m ≡ sense_in view sense) }
+    ensures knows { IfSome result (λ m. (known : Known) → KnowsSense known sense → KnowsMeaning known m) }
 {
     match sense {
         Sense::Undefined => Some(Meaning::Undefined),
@@ -34,7 +37,8 @@ pub(crate) fn meaning_of(sense: Sense) -> Option<Meaning<BoxNode>>
 
 /// The meaning of a primitive. None comes only where it has no place in the table.
 fn primitive_meaning(primitive: Primitive) -> Option<Meaning<BoxNode>>
-    ensures { IfSome result (λ m. (view : View) → meaning_in view m ≡ private.Prim primitive) }
+    ensures means { IfSome result (λ m. (view : View) → meaning_in view m ≡ private.Prim primitive) }
+    ensures knows { IfSome result (λ m. (known : Known) → KnowsMeaning known m) }
 {
     let mut place = 0;
     'places: while let Some(other) = primitive_at(place) {
@@ -48,7 +52,8 @@ fn primitive_meaning(primitive: Primitive) -> Option<Meaning<BoxNode>>
 
 /// The meaning of `\relax`.
 pub(crate) fn relax() -> Option<Meaning<BoxNode>>
-    ensures { IfSome result (λ m. (view : View) → meaning_in view m ≡ private.Prim (primitive.Command command.Relax)) }
+    ensures means { IfSome result (λ m. (view : View) → meaning_in view m ≡ private.Prim (primitive.Command command.Relax)) }
+    ensures listless { IfSome result (λ m. pooled_of m ≡ None) }
 {
     let place = place_named(b"relax")?;
     match primitive_at(place) {

@@ -1,6 +1,11 @@
 //! Texts that are printed, and told or put in front.
 
-ghost use Rattle.std.specs.Prelude.{◌≡◌, ◌<◌, ℕ, List, None, Some, IfOk, OnErr, length};
+ghost use Rattle.std.specs.Prelude.{ℕ, Bool, ◌<◌, None, IfOk, ◌≡◌, List, Some, OnErr, length};
+ghost use Rattle.tx_input.specs.Worlds.{AllKnown};
+ghost use Rattle.tx_describe.specs.Descriptions.{Knows, wants};
+ghost use Rattle.tx_frames.specs.Knowledge.{KnowsTokens, KnowsSense, KnowsPrint};
+ghost use Rattle.tx_scene.specs.Knowledge.{KnowsScene};
+ghost use Rattle.tx_run.specs.Knowledge.{known_by, KnowsFormat, KnowsStart, KnowsOpen, KnowsAfter, Holds};
 ghost use Rattle.std.specs.List.{AllByRecursion};
 ghost use Rattle.tx_node.specs.declared.BoxNode.{BoxNode};
 ghost use Rattle.tx_eqtb.specs.Meanings.{Map, meanings};
@@ -14,7 +19,6 @@ ghost use Rattle.tx_opens.specs.Opens.{Open, Comes};
 ghost use Rattle.tx_views.specs.Views.{View, all_viewed};
 ghost use Rattle.tx_views.specs.Meanings.{sense_in};
 ghost use Rattle.tx_environment.specs.Soundness.{IsSound};
-ghost use Rattle.tx_describe.specs.Descriptions.{wants};
 ghost use Rattle.tx_frames.specs.Answers.{printed};
 ghost use Rattle.tx_scene.specs.Scenes.{Ground, IsGround, world};
 ghost use Rattle.tx_run.specs.declared.doing.Doing.TheVariants as doing;
@@ -54,6 +58,8 @@ impl Run {
         ensures sound { (frozen : Map BoxNode) → IsSound frozen self.old.scene.environment → IsSoundAfter frozen result self.new }
         ensures keeps { Keeps self.old self.new }
         ensures asked { self.old.fallen ≡ None → IsAsked result self.new }
+        ensures knows { (names : ℕ → Bool) → KnowsScene names self.old.scene → KnowsOpen (known_by names self.old.scene) self.old.frames self.old.command → KnowsStart (known_by names self.old.scene) begun → IfOk tokens (λ copy. KnowsTokens (known_by names self.old.scene) copy) → KnowsAfter names result self.new }
+        ensures holds { Holds self.old self.new }
     {
         match tokens {
             Ok(tokens) => {
@@ -72,6 +78,8 @@ impl Run {
         ensures sound { IsSoundAfter (meanings format.now.frozen) result self.new }
         ensures keeps { Keeps self.old self.new }
         ensures asked { self.old.fallen ≡ None → IsAsked result self.new }
+        ensures knows { (names : ℕ → Bool) → KnowsScene names self.old.scene → KnowsOpen (known_by names self.old.scene) self.old.frames self.old.command → KnowsStart (known_by names self.old.scene) begun → KnowsPrint (known_by names self.old.scene) print → KnowsAfter names result self.new }
+        ensures holds { Holds self.old self.new }
     {
         let alloc = self.scene.alloc;
         match print {
@@ -112,6 +120,8 @@ impl Run {
         ensures sound { IsSoundAfter (meanings format.now.frozen) result self.new }
         ensures keeps { Keeps self.old self.new }
         ensures asked { self.old.fallen ≡ None → IsAsked result self.new }
+        ensures knows { (names : ℕ → Bool) → KnowsScene names self.old.scene → KnowsSense (known_by names self.old.scene) sense → KnowsAfter names result self.new }
+        ensures holds { Holds self.old self.new }
     {
         let escape = self
             .scene
@@ -128,7 +138,8 @@ impl Run {
 
     /// The content of a list of the format.
     pub(crate) fn frozen_list(&self, format: &Format, place: u32) -> Result<Toks, AllocError>
-        ensures { IfOk result (λ tokens. (tokens ≡ list_at format.now.lists place) × (place < length format.now.lists)) }
+        ensures list { IfOk result (λ tokens. (tokens ≡ list_at format.now.lists place) × (place < length format.now.lists)) }
+        ensures knows { (names : ℕ → Bool) → KnowsFormat names format.now → IfOk result (λ copy. AllKnown names copy) }
     {
         match format.get_list(place) {
             Some(list) => Ok(Toks(list.to_vec(self.scene.alloc)?)),
@@ -150,6 +161,8 @@ impl Run {
         ensures sound { IsSoundAfter (meanings format.now.frozen) result self.new }
         ensures keeps { Keeps self.old self.new }
         ensures asked { self.old.fallen ≡ None → IsAsked result self.new }
+        ensures knows { (names : ℕ → Bool) → KnowsFormat names format.now → KnowsScene names self.old.scene → KnowsOpen (known_by names self.old.scene) self.old.frames self.old.command → KnowsStart (known_by names self.old.scene) begun → Knows names (known_by names self.old.scene).list description → KnowsAfter names result self.new }
+        ensures holds { Holds self.old self.new }
     {
         let mut description = description;
         match description.go() {
@@ -182,6 +195,8 @@ impl Run {
         ensures sound { IsSoundAfter (meanings format.now.frozen) result self.new }
         ensures keeps { Keeps self.old self.new }
         ensures asked { self.old.fallen ≡ None → IsAsked result self.new }
+        ensures knows { (names : ℕ → Bool) → KnowsFormat names format.now → KnowsScene names self.old.scene → KnowsOpen (known_by names self.old.scene) self.old.frames self.old.command → KnowsStart (known_by names self.old.scene) begun → Knows names (known_by names self.old.scene).list description → KnowsAfter names result self.new }
+        ensures holds { Holds self.old self.new }
     {
         let mut description = description;
         match wanted {
@@ -212,6 +227,8 @@ impl Run {
         ensures sound { IsSoundAfter (meanings format.now.frozen) result self.new }
         ensures keeps { Keeps self.old self.new }
         ensures asked { self.old.fallen ≡ None → IsAsked result self.new }
+        ensures knows { (names : ℕ → Bool) → KnowsFormat names format.now → KnowsScene names self.old.scene → Knows names (known_by names self.old.scene).list description → KnowsAfter names result self.new }
+        ensures holds { Holds self.old self.new }
     {
         let mut description = description;
         match description.go() {
@@ -243,6 +260,8 @@ impl Run {
         ensures sound { IsSoundAfter (meanings format.now.frozen) result self.new }
         ensures keeps { Keeps self.old self.new }
         ensures asked { self.old.fallen ≡ None → IsAsked result self.new }
+        ensures knows { (names : ℕ → Bool) → KnowsFormat names format.now → KnowsScene names self.old.scene → Knows names (known_by names self.old.scene).list description → KnowsAfter names result self.new }
+        ensures holds { Holds self.old self.new }
     {
         let mut description = description;
         match wanted {
@@ -273,6 +292,8 @@ impl Run {
         ensures sound { IsSoundAfter (meanings format.now.frozen) result self.new }
         ensures keeps { Keeps self.old self.new }
         ensures asked { self.old.fallen ≡ None → IsAsked result self.new }
+        ensures knows { (names : ℕ → Bool) → KnowsScene names self.old.scene → KnowsAfter names result self.new }
+        ensures holds { Holds self.old self.new }
     {
         match told {
             Told::Log => match self.scene.tell(format.frozen(), text) {

@@ -1,6 +1,9 @@
 //! Tokens, and the text's end, for whoever takes them.
 
-ghost use Rattle.std.specs.Prelude.{◌≡◌, [], ◌∷◌, None};
+ghost use Rattle.std.specs.Prelude.{ℕ, Bool, None, ◌≡◌, [], ◌∷◌};
+ghost use Rattle.tx_frames.specs.Knowledge.{Known, KnowsToken, KnowsSense, KnowsFrame, KnowsAnswer};
+ghost use Rattle.tx_scene.specs.Knowledge.{KnowsScene};
+ghost use Rattle.tx_run.specs.Knowledge.{known_by, KnowsFormat, KnowsOpen, KnowsAfter, Holds};
 ghost use Rattle.std.specs.List.{AllByRecursion};
 ghost use Rattle.tx_eqtb.specs.Meanings.{meanings};
 ghost use Rattle.tx_private.specs.World.{World};
@@ -40,6 +43,8 @@ impl Run {
         ensures sound { IsSoundAfter (meanings format.now.frozen) result self.new }
         ensures keeps { Keeps self.old self.new }
         ensures asked { self.old.fallen ≡ None → IsAsked result self.new }
+        ensures knows { (names : ℕ → Bool) → KnowsFormat names format.now → KnowsScene names self.old.scene → KnowsOpen (known_by names self.old.scene) self.old.frames self.old.command → KnowsToken (known_by names self.old.scene) token → KnowsAfter names result self.new }
+        ensures holds { Holds self.old self.new }
     {
         match taker {
             Taker::Innermost => self.took_plain(format, token),
@@ -61,6 +66,8 @@ impl Run {
         ensures sound { IsSoundAfter (meanings format.now.frozen) result self.new }
         ensures keeps { Keeps self.old self.new }
         ensures asked { self.old.fallen ≡ None → IsAsked result self.new }
+        ensures knows { (names : ℕ → Bool) → KnowsFormat names format.now → KnowsScene names self.old.scene → KnowsOpen (known_by names self.old.scene) self.old.frames self.old.command → KnowsToken (known_by names self.old.scene) token → KnowsAfter names result self.new }
+        ensures holds { Holds self.old self.new }
     {
         match token {
             Tok::Name(number) => {
@@ -94,6 +101,8 @@ impl Run {
         ensures sound { IsSoundAfter (meanings format.now.frozen) result self.new }
         ensures keeps { Keeps self.old self.new }
         ensures asked { self.old.fallen ≡ None → IsAsked result self.new }
+        ensures knows { (names : ℕ → Bool) → KnowsFormat names format.now → KnowsScene names self.old.scene → KnowsOpen (known_by names self.old.scene) self.old.frames self.old.command → KnowsToken (known_by names self.old.scene) token → KnowsAfter names result self.new }
+        ensures holds { Holds self.old self.new }
     {
         let sense = self.scene.sense(format.frozen(), token);
         match self.frames.pop() {
@@ -125,6 +134,8 @@ impl Run {
         ensures sound { IsSoundAfter (meanings format.now.frozen) result self.new }
         ensures keeps { Keeps self.old self.new }
         ensures asked { self.old.fallen ≡ None → IsAsked result self.new }
+        ensures knows { (names : ℕ → Bool) → KnowsFormat names format.now → KnowsScene names self.old.scene → KnowsOpen (known_by names self.old.scene) self.old.frames self.old.command → KnowsFrame (known_by names self.old.scene) frame → KnowsToken (known_by names self.old.scene) token → KnowsSense (known_by names self.old.scene) sense → KnowsAfter names result self.new }
+        ensures holds { Holds self.old self.new }
     {
         let begun = start_of(&frame);
         let answer = feed_token(self.scene.alloc, frame, token, sense, letter);
@@ -140,6 +151,8 @@ impl Run {
         ensures sound { IsSoundAfter (meanings format.now.frozen) result self.new }
         ensures keeps { Keeps self.old self.new }
         ensures asked { self.old.fallen ≡ None → IsAsked result self.new }
+        ensures knows { (names : ℕ → Bool) → KnowsFormat names format.now → KnowsScene names self.old.scene → KnowsOpen (known_by names self.old.scene) self.old.frames self.old.command → KnowsAfter names result self.new }
+        ensures holds { Holds self.old self.new }
     {
         match taker {
             Taker::Innermost => self.ended_plain(format),
@@ -159,6 +172,8 @@ impl Run {
         ensures sound { IsSoundAfter (meanings format.now.frozen) result self.new }
         ensures keeps { Keeps self.old self.new }
         ensures asked { self.old.fallen ≡ None → IsAsked result self.new }
+        ensures knows { (names : ℕ → Bool) → KnowsFormat names format.now → KnowsScene names self.old.scene → KnowsOpen (known_by names self.old.scene) self.old.frames self.old.command → KnowsAfter names result self.new }
+        ensures holds { Holds self.old self.new }
     {
         match self.frames.pop() {
             None => {
@@ -180,6 +195,8 @@ impl Run {
         ensures sound { IsSoundAfter (meanings format.now.frozen) result self.new }
         ensures keeps { Keeps self.old self.new }
         ensures asked { self.old.fallen ≡ None → IsAsked result self.new }
+        ensures knows { (names : ℕ → Bool) → KnowsScene names self.old.scene → KnowsAfter names result self.new }
+        ensures holds { Holds self.old self.new }
     {
         let case = match limit {
             NameLimit::Number => 0,
@@ -194,6 +211,7 @@ impl Run {
 fn feed_token(alloc: Global, frame: Frame, token: Tok, sense: Sense, letter: Option<u8>) -> Answer
     requires plain { wish_of frame ≡ Wish.Plain }
     ensures becomes { (view : View) (w : World) → letter_given (frame ∷ []) letter ≡ letter_given (frame ∷ []) (letter_of_token (viewed view token)) → BecomesGiven view frame (item.Token token sense) w result }
+    ensures knows { (known : Known) → KnowsFrame known frame → KnowsToken known token → KnowsSense known sense → KnowsAnswer known result }
 {
     match frame {
         Frame::Scan(reading, scan) => feed_letter(reading, scan, Some(token), letter),
@@ -205,6 +223,7 @@ fn feed_token(alloc: Global, frame: Frame, token: Tok, sense: Sense, letter: Opt
 fn feed_end(alloc: Global, frame: Frame) -> Answer
     requires plain { wish_of frame ≡ Wish.Plain }
     ensures becomes { (view : View) (w : World) → BecomesGiven view frame item.End w result }
+    ensures knows { (known : Known) → KnowsFrame known frame → KnowsAnswer known result }
 {
     match frame {
         Frame::Scan(reading, scan) => feed_letter(reading, scan, None, None),

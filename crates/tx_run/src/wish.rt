@@ -1,6 +1,9 @@
 //! The innermost reading's wish for its next item, and the readings that begin.
 
-ghost use Rattle.std.specs.Prelude.{◌≡◌, ℕ, [], None, false};
+ghost use Rattle.std.specs.Prelude.{ℕ, Bool, None, ◌≡◌, [], false};
+ghost use Rattle.tx_frames.specs.Knowledge.{Known, KnowsReading, KnowsWish};
+ghost use Rattle.tx_scene.specs.Knowledge.{KnowsScene};
+ghost use Rattle.tx_run.specs.Knowledge.{known_by, KnowsFormat, KnowsStart, KnowsOpen, KnowsAfter, Holds};
 ghost use Rattle.std.specs.List.{AllByRecursion};
 ghost use Rattle.tx_node.specs.declared.BoxNode.{BoxNode};
 ghost use Rattle.tx_eqtb.specs.Meanings.{Map, meanings};
@@ -35,6 +38,8 @@ impl Run {
         ensures sound { IsSoundAfter (meanings format.now.frozen) result self.new }
         ensures keeps { Keeps self.old self.new }
         ensures asked { self.old.fallen ≡ None → IsAsked result self.new }
+        ensures knows { (names : ℕ → Bool) → KnowsFormat names format.now → KnowsScene names self.old.scene → KnowsOpen (known_by names self.old.scene) self.old.frames self.old.command → KnowsAfter names result self.new }
+        ensures holds { Holds self.old self.new }
     {
         if self.scene.is_overfull() {
             return self.overfull(format);
@@ -48,7 +53,8 @@ impl Run {
 
     /// How the innermost reading takes its next item.
     fn wish(&self) -> Wish
-        ensures { result ≡ wish_in self.now.frames self.now.command }
+        ensures wishes { result ≡ wish_in self.now.frames self.now.command }
+        ensures knows { (known : Known) → KnowsOpen known self.now.frames self.now.command → KnowsWish known result }
     {
         match self.frames.last() {
             Some(frame) => frame.wish(),
@@ -64,6 +70,8 @@ impl Run {
         ensures sound { IsSoundAfter (meanings format.now.frozen) result self.new }
         ensures keeps { Keeps self.old self.new }
         ensures asked { self.old.fallen ≡ None → IsAsked result self.new }
+        ensures knows { (names : ℕ → Bool) → KnowsFormat names format.now → KnowsScene names self.old.scene → KnowsOpen (known_by names self.old.scene) self.old.frames self.old.command → KnowsStart (known_by names self.old.scene) begun → KnowsAfter names result self.new }
+        ensures holds { Holds self.old self.new }
     {
         if self.scene.is_overfull() {
             return self.overfull(format);
@@ -82,6 +90,8 @@ impl Run {
         ensures sound { IsSoundAfter (meanings format.now.frozen) result self.new }
         ensures keeps { Keeps self.old self.new }
         ensures asked { self.old.fallen ≡ None → IsAsked result self.new }
+        ensures knows { (names : ℕ → Bool) → KnowsFormat names format.now → KnowsScene names self.old.scene → KnowsAfter names result self.new }
+        ensures holds { Holds self.old self.new }
     {
         if self.scene.is_overfull() {
             return self.overfull(format);
@@ -99,6 +109,8 @@ impl Run {
         ensures sound { IsSoundAfter (meanings format.now.frozen) result self.new }
         ensures keeps { Keeps self.old self.new }
         ensures asked { self.old.fallen ≡ None → IsAsked result self.new }
+        ensures knows { (names : ℕ → Bool) → KnowsFormat names format.now → KnowsScene names self.old.scene → KnowsOpen (known_by names self.old.scene) self.old.frames self.old.command → KnowsAfter names result self.new }
+        ensures holds { Holds self.old self.new }
     {
         if self.frames.depth() > DEEPEST {
             return self.error(format, 57, 6, 0);
@@ -115,6 +127,8 @@ impl Run {
         ensures sound { IsSoundAfter (meanings format.now.frozen) result self.new }
         ensures keeps { Keeps self.old self.new }
         ensures asked { self.old.fallen ≡ None → IsAsked result self.new }
+        ensures knows { (names : ℕ → Bool) → KnowsFormat names format.now → KnowsScene names self.old.scene → KnowsOpen (known_by names self.old.scene) self.old.frames self.old.command → KnowsReading (known_by names self.old.scene) reading.now → KnowsAfter names result self.new }
+        ensures holds { Holds self.old self.new }
     {
         let weight = counts(Start::Within(*reading));
         if self.frames.depth().saturating_add(weight) > DEEPEST {
@@ -131,6 +145,8 @@ impl Run {
         ensures sound { IsSoundAfter (meanings format.now.frozen) result self.new }
         ensures keeps { Keeps self.old self.new }
         ensures asked { self.old.fallen ≡ None → IsAsked result self.new }
+        ensures knows { (names : ℕ → Bool) → KnowsFormat names format.now → KnowsScene names self.old.scene → KnowsOpen (known_by names self.old.scene) self.old.frames self.old.command → KnowsReading (known_by names self.old.scene) reading.now → KnowsAfter names result self.new }
+        ensures holds { Holds self.old self.new }
     {
         let answer = begin(self.scene.alloc, *reading);
         self.carry(format, Start::Within(*reading), answer)
@@ -146,6 +162,8 @@ impl Run {
         ensures sound { IsSoundAfter (meanings format.now.frozen) result self.new }
         ensures keeps { Keeps self.old self.new }
         ensures asked { self.old.fallen ≡ None → IsAsked result self.new }
+        ensures knows { (names : ℕ → Bool) → KnowsFormat names format.now → KnowsScene names self.old.scene → KnowsOpen (known_by names self.old.scene) self.old.frames self.old.command → KnowsAfter names result self.new }
+        ensures holds { Holds self.old self.new }
     {
         match self.scene.take(format.frozen()) {
             Taken::Token(token) => {

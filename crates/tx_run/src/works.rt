@@ -1,6 +1,9 @@
 //! The last things that readings do.
 
-ghost use Rattle.std.specs.Prelude.{◌≡◌, List, None};
+ghost use Rattle.std.specs.Prelude.{ℕ, Bool, None, ◌≡◌, List};
+ghost use Rattle.tx_frames.specs.Knowledge.{KnowsList, KnowsWork};
+ghost use Rattle.tx_scene.specs.Knowledge.{KnowsScene};
+ghost use Rattle.tx_run.specs.Knowledge.{known_by, KnowsFormat, KnowsStart, KnowsOpen, KnowsAfter, Holds};
 ghost use Rattle.std.specs.List.{AllByRecursion};
 ghost use Rattle.tx_eqtb.specs.Meanings.{meanings};
 ghost use Rattle.tx_model.specs.Tokens.{Token};
@@ -30,6 +33,8 @@ impl Run {
         ensures sound { IsSoundAfter (meanings format.now.frozen) result self.new }
         ensures keeps { Keeps self.old self.new }
         ensures asked { self.old.fallen ≡ None → IsAsked result self.new }
+        ensures knows { (names : ℕ → Bool) → KnowsFormat names format.now → KnowsScene names self.old.scene → KnowsOpen (known_by names self.old.scene) self.old.frames self.old.command → KnowsStart (known_by names self.old.scene) begun → KnowsWork (known_by names self.old.scene) work → KnowsAfter names result self.new }
+        ensures holds { Holds self.old self.new }
     {
         match work {
             Work::Amount(place) => {
@@ -64,6 +69,8 @@ impl Run {
         ensures sound { IsSoundAfter (meanings format.now.frozen) result self.new }
         ensures keeps { Keeps self.old self.new }
         ensures asked { self.old.fallen ≡ None → IsAsked result self.new }
+        ensures knows { (names : ℕ → Bool) → KnowsFormat names format.now → KnowsScene names self.old.scene → KnowsOpen (known_by names self.old.scene) self.old.frames self.old.command → KnowsStart (known_by names self.old.scene) begun → KnowsList (known_by names self.old.scene) list → KnowsAfter names result self.new }
+        ensures holds { Holds self.old self.new }
     {
         match list {
             ListRef::Empty => {

@@ -1,3 +1,4 @@
 pub mod GroupLemmas
 pub mod ErrorLemmas
 pub mod TokenLemmas
+pub mod HoldingLemmas

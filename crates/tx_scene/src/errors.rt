@@ -1,10 +1,11 @@
 //! Errors, and their lines in the log. *TeX: The Program*, part 6.
 
-ghost use Rattle.std.specs.Prelude.{◌≡◌, ◌++◌, codes, IfOk, OnOk, OnErr};
+ghost use Rattle.std.specs.Prelude.{◌≡◌, ℕ, Bool, ◌++◌, codes, IfOk, OnOk, OnErr};
 ghost use Rattle.std.specs.Fmt.{decimal};
 ghost use Rattle.tx_eqtb.specs.Meanings.{meanings};
 ghost use Rattle.tx_private.specs.Errors.{decimal_of, error_text as error_text_of};
 ghost use Rattle.tx_assign.specs.Refusals.{refused_in};
+ghost use Rattle.tx_scene.specs.Knowledge.{KnowsScene};
 ghost use Rattle.tx_scene.specs.Changes.{FailsBy};
 
 use crate::scene::Scene;
@@ -26,6 +27,7 @@ impl Scene {
     ) -> Result<(), AllocError>
         ensures fails { OnOk result (FailsBy (meanings frozen.now) (record { number = number; shown = shown.now }) self.old self.new) }
         ensures becomes { self.new ≡ record self.old { log = self.new.log } }
+        ensures knows { (known : ℕ → Bool) → KnowsScene known self.old → KnowsScene known self.new }
     {
         let newline = self
             .environment
@@ -41,6 +43,7 @@ impl Scene {
     pub fn refuse(&mut self, frozen: &Frozen<BoxNode>, error: Refused) -> Result<(), AllocError>
         ensures fails { OnOk result (FailsBy (meanings frozen.now) (refused_in error) self.old self.new) }
         ensures becomes { self.new ≡ record self.old { log = self.new.log } }
+        ensures knows { (known : ℕ → Bool) → KnowsScene known self.old → KnowsScene known self.new }
     {
         match error.limit {
             Some(limit) => {

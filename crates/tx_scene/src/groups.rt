@@ -1,6 +1,6 @@
 //! Groups.
 
-ghost use Rattle.std.specs.Prelude.{◌≡◌, ℕ, length, Err, OnOk, OnErr, IfSome, IfNone, ◌↔◌};
+ghost use Rattle.std.specs.Prelude.{◌≡◌, ◌+◌, ℕ, Bool, length, Err, OnOk, OnErr, IfSome, IfNone, ◌↔◌};
 ghost use Rattle.tx_node.specs.declared.BoxNode.{BoxNode};
 ghost use Rattle.tx_eqtb.specs.Meanings.{Map};
 ghost use Rattle.tx_eqtb.specs.Steps.{KeepsBefore};
@@ -8,8 +8,10 @@ ghost use Rattle.tx_save.specs.Saves.{groups, Fits};
 ghost use Rattle.tx_private.specs.World.{with_environment};
 ghost use Rattle.tx_private.specs.Environment.{beginning};
 ghost use Rattle.tx_views.specs.Views.{viewed};
+ghost use Rattle.tx_input.specs.Worlds.{IsKnown};
 ghost use Rattle.tx_environment.specs.Soundness.{IsSound, IsClosing};
 ghost use Rattle.tx_environment.specs.Steps.{IsOpen, IsOutermost, innermost, keeping_for_end, Leaves};
+ghost use Rattle.tx_scene.specs.Knowledge.{KnowsScene, KnowsClosed, references, ending};
 ghost use Rattle.tx_scene.specs.Scenes.{Ground, IsGround, world};
 ghost use Rattle.tx_scene.specs.Changes.{Changes, Closes};
 
@@ -46,6 +48,8 @@ impl Scene {
         ensures before { KeepsBefore self.old.environment.table self.new.environment.table }
         ensures full { (result ≡ Err SaveRefused.GroupsFull) ↔ (length (groups self.old.environment.saves) ≡ 254) }
         ensures err { OnErr result (self.new ≡ self.old) }
+        ensures knows { (known : ℕ → Bool) → KnowsScene known self.old → KnowsScene known self.new }
+        ensures references { (id : ℕ) → references id self.new ≡ references id self.old }
     {
         self.environment.begin(kind)
     }
@@ -58,6 +62,8 @@ impl Scene {
         ensures sound { (frozen : Map BoxNode) → IsSound frozen self.old.environment → IsSound frozen self.new.environment }
         ensures before { KeepsBefore self.old.environment.table self.new.environment.table }
         ensures err { OnErr result (self.new ≡ self.old) }
+        ensures knows { (known : ℕ → Bool) → IsKnown known token → KnowsScene known self.old → KnowsScene known self.new }
+        ensures references { (id : ℕ) → references id self.new ≡ references id self.old }
     {
         self.environment.after(token)
     }
@@ -72,6 +78,9 @@ impl Scene {
         ensures becomes { self.new ≡ record self.old { environment = self.new.environment } }
         ensures leaves { (frozen : Map BoxNode) → IsClosing frozen self.old.environment → Leaves frozen result self.new.environment }
         ensures before { KeepsBefore self.old.environment.table self.new.environment.table }
+        ensures known { (known : ℕ → Bool) → KnowsScene known self.old → KnowsClosed known result }
+        ensures knows { (known : ℕ → Bool) → KnowsScene known self.old → KnowsScene known self.new }
+        ensures references { (id : ℕ) → references id self.new + ending id result ≡ references id self.old }
     {
         self.environment.close()
     }

@@ -1,10 +1,11 @@
 //! Letters, by their codes.
 
-ghost use Rattle.std.specs.Prelude.{◌≡◌, ℕ, map, IfOk};
+ghost use Rattle.std.specs.Prelude.{◌≡◌, ℕ, Bool, map, IfOk};
 ghost use Rattle.tx_eqtb.specs.Meanings.{meanings};
 ghost use Rattle.tx_private.specs.Controls.{byte_for, recoded};
 ghost use Rattle.tx_views.specs.Views.{viewed, all_viewed};
 ghost use Rattle.tx_views.specs.Places.{table_in};
+ghost use Rattle.tx_input.specs.Worlds.{IsKnown, AllKnown};
 ghost use Rattle.tx_scene.specs.Scenes.{Ground, IsGround, world};
 
 use crate::scene::Scene;
@@ -23,7 +24,8 @@ impl Scene {
         table: CodeTable,
         tokens: &Toks,
     ) -> Result<Toks, AllocError>
-        ensures { IfOk result (λ out. (g : Ground) (depth : ℕ) → IsGround g self.now → all_viewed g.view out ≡ map (recoded (table_in table) (world g (meanings frozen.now) depth self.now)) (all_viewed g.view tokens.now)) }
+        ensures recodes { IfOk result (λ out. (g : Ground) (depth : ℕ) → IsGround g self.now → all_viewed g.view out ≡ map (recoded (table_in table) (world g (meanings frozen.now) depth self.now)) (all_viewed g.view tokens.now)) }
+        ensures knows { IfOk result (λ out. (known : ℕ → Bool) → AllKnown known tokens.now → AllKnown known out) }
     {
         let mut out = Vec::new(self.alloc);
         'tokens: for token in tokens.as_slice() {
@@ -39,7 +41,8 @@ impl Scene {
         table: CodeTable,
         token: Tok,
     ) -> Result<Tok, AllocError>
-        ensures { IfOk result (λ out. (g : Ground) (depth : ℕ) → IsGround g self.now → viewed g.view out ≡ recoded (table_in table) (world g (meanings frozen.now) depth self.now) (viewed g.view token)) }
+        ensures recodes { IfOk result (λ out. (g : Ground) (depth : ℕ) → IsGround g self.now → viewed g.view out ≡ recoded (table_in table) (world g (meanings frozen.now) depth self.now) (viewed g.view token)) }
+        ensures knows { IfOk result (λ out. (known : ℕ → Bool) → IsKnown known token → IsKnown known out) }
     {
         match token {
             Tok::Char(cat, byte) => Ok(Tok::Char(cat, self.byte_for(frozen, table, byte)?)),

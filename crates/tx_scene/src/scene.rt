@@ -1,6 +1,8 @@
 //! The scene of a region.
 
-ghost use Rattle.std.specs.Prelude.{◌≡◌, ◌+◌, ◌<◌, ◌≤◌, ℕ, ◌∷◌, [], Some, IsOk, OnOk, OnErr, IfOk, IfErr};
+ghost use Rattle.std.specs.List.{list_any};
+ghost use Rattle.std.specs.Str.{bytes_eq};
+ghost use Rattle.std.specs.Prelude.{◌≡◌, ◌+◌, ◌<◌, ◌≤◌, ℕ, Bool, true, ◌∷◌, [], Some, IsOk, OnOk, OnErr, IfOk, IfErr};
 ghost use Rattle.std.specs.Option.{option_to_list};
 ghost use Rattle.tx_node.specs.declared.BoxNode.{BoxNode};
 ghost use Rattle.tx_eqtb.specs.Meanings.{Map, meanings};
@@ -12,18 +14,23 @@ ghost use Rattle.tx_private.specs.Controls.{without_rest, keep_for_end};
 ghost use Rattle.tx_private.specs.Quantities.{quantity_at};
 ghost use Rattle.tx_private.specs.Expansions.{list_at};
 ghost use Rattle.tx_prims.specs.declared.primitives.IntegerParameter.TheVariants.{GlobalDefs};
-ghost use Rattle.tx_views.specs.Views.{viewed, all_viewed, list_in};
+ghost use Rattle.tx_views.specs.Views.{IsView, viewed, all_viewed, list_in};
 ghost use Rattle.tx_views.specs.Places.{address_in};
-ghost use Rattle.tx_views.specs.Meanings.{meaning_in, sense_in};
+ghost use Rattle.tx_views.specs.Meanings.{meaning_in, map_in, sense_in};
 ghost use Rattle.tx_save.specs.Saves.{Fits};
-ghost use Rattle.tx_environment.specs.Soundness.{IsSound};
-ghost use Rattle.tx_environment.specs.Steps.{held};
-ghost use Rattle.tx_input.specs.Takings.{WantsAfter, steps_for};
-ghost use Rattle.tx_scene.specs.Scenes.{Ground, IsGround, world};
+ghost use Rattle.tx_private.specs.Region.{started};
+ghost use Rattle.tx_environment.specs.Soundness.{IsSound, IsPresent};
+ghost use Rattle.tx_environment.specs.Steps.{held, IsOutermost};
+ghost use Rattle.tx_environment.specs.Holding.{HasNoPooled, IsHeldIn, pooled_in, pooled_of_sense};
+ghost use Rattle.tx_input.specs.Worlds.{IsOfFormat, IsKnown, AllKnown};
+ghost use Rattle.tx_input.specs.Takings.{WantsAfter, KnowsTaken, steps_for};
+ghost use Rattle.tx_scene.specs.Knowledge.{KnowsScene, references, falling, count_of};
+ghost use Rattle.tx_scene.specs.Scenes.{Ground, IsGround, world, state_in};
 ghost use Rattle.tx_scene.specs.Changes.{KeepsGround, Changes, Takes, Stores};
 
 use std::alloc::{AllocError, Global};
 use tx_assign::{Prefixes, is_global};
+use tx_bytes::Bytes;
 use tx_environment::Environment;
 use tx_eqtb::{Frozen, Meaning};
 use tx_input::{Input, Taken};
@@ -57,6 +64,46 @@ pub struct Scene {
 }
 
 impl Scene {
+    /// A scene at the beginning of a session, whose format has so many names, or of a preamble.
+    pub fn new(alloc: Global, frozen: &Frozen<BoxNode>, format_names: u64, preamble: bool) -> Self
+        ensures state { (g : Ground) → IsView g.view → IsOfFormat g.formats g.view format_names → IsGround g result × (state_in g (meanings frozen.now) result ≡ record { map = map_in g.view (meanings frozen.now); frozen = λ text. list_any (bytes_eq text) g.formats; names = [] }) }
+        ensures sound { IsSound (meanings frozen.now) result.environment }
+        ensures outermost { IsOutermost result.environment }
+        ensures journal { result.environment.table.journal ≡ [] }
+        ensures knows { (known : ℕ → Bool) → KnowsScene known result }
+        ensures references { (id : ℕ) → references id result ≡ 0 }
+        ensures preamble { result.preamble ≡ preamble }
+    {
+        Scene {
+            alloc,
+            input: Input::new(alloc, format_names),
+            environment: Environment::new(alloc, frozen),
+            kept: None,
+            stored: 0,
+            preamble,
+            log: Log::new(alloc),
+        }
+    }
+
+    /// Begins a region of this text with this budget of steps, outside of all groups.
+    pub fn begin(&mut self, text: Bytes, budget: u32)
+        requires journal { self.old.environment.table.journal ≡ [] }
+        requires outermost { IsOutermost self.old.environment }
+        ensures begun { (g : Ground) (frozen : Map BoxNode) → world g frozen 0 self.new ≡ started (state_in g frozen self.old) self.old.preamble text budget }
+        ensures ground { KeepsGround self.old self.new }
+        ensures sound { (frozen : Map BoxNode) → IsPresent frozen self.old.environment → IsSound frozen self.new.environment }
+        ensures environment { self.new.environment ≡ record self.old.environment { first = self.old.environment.cats } }
+        ensures names { self.new.input.names ≡ self.old.input.names }
+        ensures preamble { self.new.preamble ≡ self.old.preamble }
+        ensures knows { (known : ℕ → Bool) → KnowsScene known self.old → KnowsScene known self.new }
+    {
+        self.input.begin(text, budget);
+        self.environment.begin_region();
+        self.kept = None;
+        self.stored = 0;
+        self.log = Log::new(self.alloc);
+    }
+
     /// Takes the next token of what is pending. *TeX: The Program*, part 24.
     pub fn take(&mut self, frozen: &Frozen<BoxNode>) -> Taken
         requires sound { IsSound (meanings frozen.now) self.old.environment }
@@ -68,6 +115,8 @@ impl Scene {
         ensures budget { self.new.input.steps.budget ≡ self.old.input.steps.budget }
         ensures names { self.new.input.names ≡ self.old.input.names }
         ensures ground { KeepsGround self.old self.new }
+        ensures known { (known : ℕ → Bool) → KnowsScene known self.old → KnowsTaken known result }
+        ensures knows { (known : ℕ → Bool) → KnowsScene known self.old → KnowsScene known self.new }
     {
         let end = self
             .environment
@@ -75,9 +124,11 @@ impl Scene {
         self.input.take(self.environment.cats(), end)
     }
 
-    /// What a token means now. *TeX: The Program*, part 24.
+    /// What a token means now. A pooled list in it is one that the scene holds, where the frozen table has none. *TeX: The
+    /// Program*, part 24.
     pub fn sense(&self, frozen: &Frozen<BoxNode>, token: Tok) -> Sense
-        ensures { (g : Ground) (depth : ℕ) → IsGround g self.now → sense_in g.view result ≡ meaning_of (world g (meanings frozen.now) depth self.now).environment (viewed g.view token) }
+        ensures means { (g : Ground) (depth : ℕ) → IsGround g self.now → sense_in g.view result ≡ meaning_of (world g (meanings frozen.now) depth self.now).environment (viewed g.view token) }
+        ensures holds { HasNoPooled (meanings frozen.now) → IsHeldIn (held self.now.environment) (pooled_of_sense result) }
     {
         self.environment.sense(frozen, token)
     }
@@ -96,9 +147,11 @@ impl Scene {
         self.environment.quantity(frozen, place)
     }
 
-    /// The list of tokens that a place means. *TeX: The Program*, section 415.
+    /// The list of tokens that a place means. A pooled one is one that the scene holds, where the frozen table has none.
+    /// *TeX: The Program*, section 415.
     pub fn list(&self, frozen: &Frozen<BoxNode>, place: Place) -> ListRef
-        ensures { (g : Ground) (depth : ℕ) → IsGround g self.now → list_in g.view result ≡ list_at (address_in g.view place) (world g (meanings frozen.now) depth self.now) }
+        ensures means { (g : Ground) (depth : ℕ) → IsGround g self.now → list_in g.view result ≡ list_at (address_in g.view place) (world g (meanings frozen.now) depth self.now) }
+        ensures holds { HasNoPooled (meanings frozen.now) → IsHeldIn (held self.now.environment) (pooled_in result) }
     {
         self.environment.list(frozen, place)
     }
@@ -123,6 +176,7 @@ impl Scene {
         ensures names { self.new.input.names ≡ self.old.input.names }
         ensures ground { KeepsGround self.old self.new }
         ensures err { OnErr result (self.new ≡ self.old) }
+        ensures knows { (known : ℕ → Bool) → AllKnown known tokens → KnowsScene known self.old → KnowsScene known self.new }
     {
         self.input.put(tokens)
     }
@@ -141,6 +195,7 @@ impl Scene {
         ensures steps { self.new.input.steps ≡ self.old.input.steps }
         ensures names { self.new.input.names ≡ self.old.input.names }
         ensures ground { KeepsGround self.old self.new }
+        ensures knows { (known : ℕ → Bool) → KnowsScene known self.old → KnowsScene known self.new }
     {
         self.input.drop_rest();
     }
@@ -161,6 +216,8 @@ impl Scene {
         ensures before { KeepsBefore self.old.environment.table self.new.environment.table }
         ensures err { IfErr result (λ back. back ≡ meaning) }
         ensures unchanged { OnErr result (self.new ≡ self.old) }
+        ensures knows { (known : ℕ → Bool) → KnowsScene known self.old → KnowsScene known self.new }
+        ensures references { IfOk result (λ out. (id : ℕ) → references id self.new + falling id out ≡ references id self.old + count_of id meaning) }
     {
         self.environment.assign(place, meaning, global)
     }
@@ -173,6 +230,7 @@ impl Scene {
         ensures steps { self.new.input.steps ≡ self.old.input.steps }
         ensures names { self.new.input.names ≡ self.old.input.names }
         ensures ground { KeepsGround self.old self.new }
+        ensures knows { (known : ℕ → Bool) → KnowsScene known self.old → KnowsScene known self.new }
     {
         match self.kept.take() {
             Some(token) => {
@@ -187,6 +245,7 @@ impl Scene {
     pub fn keep(&mut self, token: Tok)
         ensures kept { Changes (λ g w. record w { kept = Some (viewed g.view token) }) self.old self.new }
         ensures becomes { self.new ≡ record self.old { kept = Some token } }
+        ensures knows { (known : ℕ → Bool) → IsKnown known token → KnowsScene known self.old → KnowsScene known self.new }
     {
         self.kept = Some(token);
     }
@@ -195,6 +254,7 @@ impl Scene {
     pub fn store(&mut self, tokens: &Toks) -> bool
         ensures stores { Stores tokens.now result self.old self.new }
         ensures becomes { self.new ≡ record self.old { stored = self.new.stored } }
+        ensures knows { (known : ℕ → Bool) → KnowsScene known self.old → KnowsScene known self.new }
     {
         let most = if self.preamble {
             MOST_STORED_BY_PREAMBLE
@@ -214,11 +274,19 @@ impl Scene {
     pub fn tell(&mut self, frozen: &Frozen<BoxNode>, text: &[u8]) -> Result<(), AllocError>
         ensures told { OnOk result ((g : Ground) (depth : ℕ) → IsGround g self.old → world g (meanings frozen.now) depth self.new ≡ logged text.now (world g (meanings frozen.now) depth self.old)) }
         ensures becomes { self.new ≡ record self.old { log = self.new.log } }
+        ensures knows { (known : ℕ → Bool) → KnowsScene known self.old → KnowsScene known self.new }
         ensures err { OnErr result (self.new ≡ self.old) }
     {
         let newline = self
             .environment
             .integer(frozen, IntegerParameter::NewLineChar);
         self.log.line(text, newline)
+    }
+
+    /// A fact for callers; it does nothing. What a scene has stays known where more is.
+    pub fn knows_more(&self)
+        ensures { (known more : ℕ → Bool) → ((n : ℕ) → known n ≡ true → more n ≡ true) → KnowsScene known self.now → KnowsScene more self.now }
+    {
+        self.input.knows_more();
     }
 }

@@ -8,15 +8,14 @@ use std::marker::Model;
 use std::test::Fail;
 use tx_assign::{Prefixes, Refused};
 use tx_bytes::Bytes;
-use tx_environment::Environment;
 use tx_eqtb::{Entries, Frozen, Meaning, RegKind};
-use tx_input::{Input, Taken};
+use tx_input::Taken;
 use tx_node::BoxNode;
 use tx_num::{ErrorNo, Quant};
 use tx_prims::primitives::{IntegerParameter, ListParameter};
 use tx_save::{Closed, GroupKind};
 use tx_scan::Cats;
-use tx_tok::{Cat, ListRef, Log, Tok, Toks};
+use tx_tok::{Cat, ListRef, Tok, Toks};
 use tx_views::{CodeTable, Place, Sense};
 
 /// How many names the format of the tests has.
@@ -78,18 +77,8 @@ impl Stage {
     /// Nothing is set, and this text is pending.
     fn new(alloc: Global, text: &[u8]) -> Result<Self, AllocError> {
         let frozen = nothing(alloc)?;
-        let environment = Environment::new(alloc, &frozen);
-        let mut input = Input::new(alloc, FORMAT_NAMES);
-        input.begin(Bytes::from_slice(alloc, text)?, 100);
-        let scene = Scene {
-            alloc,
-            input,
-            environment,
-            kept: None,
-            stored: 0,
-            preamble: false,
-            log: Log::new(alloc),
-        };
+        let mut scene = Scene::new(alloc, &frozen, FORMAT_NAMES, false);
+        scene.begin(Bytes::from_slice(alloc, text)?, 100);
         Ok(Stage { frozen, scene })
     }
 

@@ -4,6 +4,6 @@ use Rattle.tx_run.proofs.SenseLemmas.{same-primitive}
 use Rattle.tx_run.proofs.senses.primitive_meaning.Goals as goal
 
 -- the primitive at the place is the one that is looked for
-pub returns-then-eq : goal.returns-then-eq
-returns-then-eq c = λ view.
+pub returns-then-eq-clause-means : goal.returns-then-eq-clause-means
+returns-then-eq-clause-means c = λ view.
     ap primitive_in (sym c.primitive_at.ensures ∙ c.in-Some.is ∙ ap Some (same-primitive c.in-Some.other c.args.primitive (sym c.eq.ensures ∙ c.if-eq.true)))

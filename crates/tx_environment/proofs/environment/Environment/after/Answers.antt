@@ -1,5 +1,5 @@
 use Rattle.std.proofs.Common.{sym, ◌∙◌, arith}
-use Rattle.tx_environment.proofs.StepLemmas.{length-after, after-is, on_ok_map}
+use Rattle.tx_environment.proofs.StepLemmas.{length-after, groups-after, after-is, on_ok_map}
 use Rattle.tx_environment.proofs.environment.Environment.after.Goals as goal
 
 pub invariant_of-self : goal.invariant_of-self
@@ -13,3 +13,6 @@ returns-clause-kept c = rw (← c.self.view_is) (on_ok_map c.after.result (after
 pub returns-clause-groups : goal.returns-clause-groups
 returns-clause-groups c =
     rw (← c.self.view_is) (length-after c.args.token c.self.inside.save c.after.new.self c.after.result c.after.ensures.ok c.after.ensures.unchanged).0
+
+pub returns-clause-leaves : goal.returns-clause-leaves
+returns-clause-leaves c = rw (← c.self.view_is) (on_ok_map c.after.result (groups-after c.args.token c.self.inside.save c.after.new.self) c.after.ensures.ok)

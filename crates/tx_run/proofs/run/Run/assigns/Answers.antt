@@ -16,3 +16,6 @@ returns-in-Ok-clause-leads c = λ g is.
     leads-moves g frozen (assigns (prefixes_in c.args.prefixes) (address_in g.view c.args.place) (meaning_in g.view c.args.meaning)) (λ w. private.Again (release w.kept w)) c.args.self.now.scene c.assign.new.self.scene c.releases.result c.releases.new.self
     (ap (λ (w : World). private.Again (release w.kept w)) (sym (c.in-Ok.ensures.assigned g 0 is.ground)))
     (c.releases.ensures.leads frozen g (c.assign.ensures.keeps.ground g is.ground))
+
+pub returns-in-Ok-clause-knows : goal.returns-in-Ok-clause-knows
+returns-in-Ok-clause-knows c names scene = c.releases.ensures.knows names (c.assign.ensures.knows names scene)

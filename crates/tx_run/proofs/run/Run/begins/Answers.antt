@@ -1,3 +1,4 @@
+use Rattle.tx_run.specs.Knowledge.{known_by, KnowsStart}
 use Rattle.std.proofs.Common.{pos, [], ◌∷◌, sym, ◌∙◌, subst}
 use Rattle.tx_eqtb.specs.Meanings.{meanings}
 use Rattle.tx_private.specs.Errors.{numbered}
@@ -49,3 +50,7 @@ returns-in-Within-clause-leads c = λ g is.
     (leads-map (Comes (begun k) around (move_in k [] (world_in g frozen k around run))) (AnyComes g frozen k around private.Again run) g frozen c.open.result c.open.new.self
     (λ r p. begins g frozen k around run r (sym (c.is_overfull.ensures g frozen (depth_of (begun k ∷ around))) ∙ c.if-is_overfull.false) p)
     (c.open.ensures.leads g is))
+
+pub returns-in-Within-clause-knows : goal.returns-in-Within-clause-knows
+returns-in-Within-clause-knows c names format scene behind start =
+    c.open.ensures.knows names format scene behind (subst (λ s. KnowsStart (known_by names c.args.self.now.scene) s) c.in-Within.is start)

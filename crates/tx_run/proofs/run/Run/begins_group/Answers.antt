@@ -1,4 +1,5 @@
-use Rattle.std.proofs.Common.{◌≤◌, ◌<◌, sym, ap, subst, ◌∙◌, pos}
+use Rattle.tx_run.specs.Knowledge.{counts_as}
+use Rattle.std.proofs.Common.{◌≤◌, ◌<◌, sym, ap, subst, ◌∙◌, true, false, pos, ◌≡◌, arith}
 use Rattle.tx_private.specs.Readings as private
 use Rattle.tx_private.specs.Errors.{numbered}
 use Rattle.tx_scene.specs.declared.scene.Scene.{Scene}
@@ -28,3 +29,11 @@ returns-in-Ok-clause-leads c = λ g is.
     (opens-more c.args.kind (world g frozen 0 old) (subst (λ n. n < 254) (sym (c.groups.ensures.count g frozen 0)) c.if-groups-ge-MOST_GROUPS.false)
     ∙ ap private.Again (sym (c.in-Ok.ensures.begun g frozen 0 is.ground)))
     (c.restarts.ensures.leads frozen g (ground-same old new (ap (λ (s : Scene). s.input) c.begin_group.ensures.becomes) g is.ground))
+
+pub returns-in-Ok-clause-knows : goal.returns-in-Ok-clause-knows
+returns-in-Ok-clause-knows c names scene = c.restarts.ensures.knows names (c.begin_group.ensures.knows names scene)
+
+pub returns-in-Ok-clause-holds : goal.returns-in-Ok-clause-holds
+returns-in-Ok-clause-holds c empty id =
+    let none : counts_as id c.args.self.now.fallen ≡ 0 = ap (counts_as id) empty.fallen in
+    omega (arith, c.restarts.ensures.holds empty.doing id, c.begin_group.ensures.references id, none)

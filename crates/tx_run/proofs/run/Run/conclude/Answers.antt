@@ -1,13 +1,12 @@
 use Rattle.std.proofs.Common.{refl, subst}
 use Rattle.tx_private.specs.Readings as private
-use Rattle.tx_private.specs.World.{World}
+use Rattle.tx_private.specs.World.{World, put_in_front}
 use Rattle.tx_scene.specs.Scenes.{world}
 use Rattle.tx_eqtb.specs.Meanings.{meanings}
 use Rattle.tx_commands.specs.Outcomes.{move_of, Becomes}
 use Rattle.tx_commands.specs.declared.outcome.Outcome.{Outcome}
 use Rattle.tx_run.proofs.CommandLemmas.{leads-fails, command-wishes, leads-open}
 use Rattle.tx_run.proofs.run.Run.conclude.Goals as goal
-use Rattle.tx_private.specs.World.{put_in_front}
 use Rattle.tx_views.specs.Views.{all_viewed}
 use Rattle.tx_assign.specs.Refusals.{refused_in}
 

@@ -1,3 +1,5 @@
+use Rattle.tx_run.proofs.KnowledgeLemmas.{none-known}
+use Rattle.tx_run.specs.Knowledge.{known_by}
 use Rattle.std.proofs.Common.{pos, [], refl, sym, ◌∙◌}
 use Rattle.tx_eqtb.specs.Meanings.{meanings}
 use Rattle.tx_private.specs.Errors.{numbered}
@@ -30,3 +32,9 @@ returns-clause-leads c = λ g is.
 
 pub wishes-requires-clause-waits : goal.wishes-requires-clause-waits
 wishes-requires-clause-waits c = none-wait-around c.args.self.now.frames c.requires.empty
+
+pub returns-clause-knows : goal.returns-clause-knows
+returns-clause-knows c names format scene =
+    let run = c.args.self.now in
+    let known = known_by names run.scene in
+    c.wishes.ensures.knows names format scene (none-known known run.frames c.start-self.result c.requires.empty (c.start-self.ensures.knows known))

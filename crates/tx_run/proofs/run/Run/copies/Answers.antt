@@ -21,4 +21,4 @@ returns-in-Frozen-clause-leads c = λ g ground.
     let frozen = meanings c.args.format.now.frozen in
     let run = c.args.self.now in
     copied-list c.args.format.now g frozen (kind_of g.view c.args.begun) (opens g.view run) c.args.how run c.copied-in-Frozen.new.self c.frozen_list-tokens.result c.copied-in-Frozen.result c.in-Frozen.place c.args.list c.in-Frozen.is ground
-    (c.copied-in-Frozen.ensures.copied frozen g ground.ground) c.copied-in-Frozen.ensures.memory c.frozen_list-tokens.ensures
+    (c.copied-in-Frozen.ensures.copied frozen g ground.ground) c.copied-in-Frozen.ensures.memory c.frozen_list-tokens.ensures.list

@@ -1,4 +1,9 @@
-use Rattle.std.proofs.Common.{◌≡◌, pos, w32, subst, rules}
+use Rattle.tx_run.specs.declared.doing.Told.TheVariants as told
+use Rattle.tx_run.specs.declared.doing.Doing.TheVariants as doing
+use Rattle.tx_run.specs.declared.run.Run.{Run}
+use Rattle.tx_run.proofs.KnowledgeLemmas.{known-on, sense-described}
+use Rattle.tx_run.specs.Knowledge.{known_by}
+use Rattle.std.proofs.Common.{◌≡◌, pos, w32, subst, rules, refl}
 use Rattle.std.proofs.lemmas.Int.{to_z-of_z}
 use mir.Val.{SFits}
 use Rattle.tx_eqtb.specs.Meanings.{meanings}
@@ -28,3 +33,10 @@ returns-clause-leads c = λ g ground r after o around depth.
     subst (λ f. n ≡ parameter_of (world g (meanings f) depth s).environment EscapeChar) c.frozen.ensures (c.integer-escape.ensures g depth ground.ground) in
     shows-meaning g frozen (record { no = c.args.no; case = 0; value = pos 0 }) (text_in g.view s.environment.cats d) (meaning_text (world g frozen depth s).environment (sense_in g.view c.args.sense)) c.args.self.now r o around depth
     (described-meaning g frozen depth s c.args.sense n d c.requires.sound shows escape) after
+
+pub returns-clause-knows : goal.returns-clause-knows
+returns-clause-knows c names scene means =
+    let old = c.args.self.now in
+    let known = known_by names old.scene in
+    let new : Run = record old { doing = doing.Tells (told.Error (record { no = c.args.no; case = 0; value = pos 0 })) c.meaning-description.result } in
+    known-on names old.scene new refl scene (c.meaning-description.ensures.knows names known.list (sense-described known c.args.sense means)) tt

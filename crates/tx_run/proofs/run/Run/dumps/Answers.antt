@@ -45,3 +45,12 @@ returns-clause-leads c = λ g is.
     (ap (λ (v : World). dumped v.preamble v.environment.groups v) (sym (c.drop_rest.ensures.dropped g frozen 0 is.ground))
     ∙ dumped-none new.preamble w.environment.groups w c.groups.result (c.groups.ensures.count g frozen 0) c.if-groups-gt0.false)
     (c.finishes-2.ensures.leads g (ground-after c.args.format.now g old new c.drop_rest.ensures.ground is))
+
+pub returns-then-not-self-clause-knows : goal.returns-then-not-self-clause-knows
+returns-then-not-self-clause-knows c names scene = c.finishes.ensures.knows names (c.drop_rest.ensures.knows names scene)
+
+pub returns-then-groups-gt0-clause-knows : goal.returns-then-groups-gt0-clause-knows
+returns-then-groups-gt0-clause-knows c names scene = c.error.ensures.knows names (c.drop_rest.ensures.knows names scene)
+
+pub returns-clause-knows : goal.returns-clause-knows
+returns-clause-knows c names scene = c.finishes-2.ensures.knows names (c.drop_rest.ensures.knows names scene)

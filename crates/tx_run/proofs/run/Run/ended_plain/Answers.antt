@@ -1,4 +1,6 @@
-use Rattle.std.proofs.Common.{[], subst}
+use Rattle.tx_run.proofs.KnowledgeLemmas.{start-known, first-known}
+use Rattle.tx_run.specs.Knowledge.{known_by, KnowsStart}
+use Rattle.std.proofs.Common.{[], subst, sym}
 use Rattle.tx_eqtb.specs.Meanings.{meanings}
 use Rattle.tx_private.specs.Readings as private
 use Rattle.tx_opens.specs.Opens.{ComesGiven}
@@ -34,3 +36,14 @@ returns-in-Some-clause-leads c = λ g is.
     (carried c.args.format.now g f item.End c.feed_end-answer.result rest c.carry.result c.carry.new.self is
     (subst (λ (s : Start). CarriesOut c.args.format.now s c.feed_end-answer.result rest c.carry.result c.carry.new.self) c.start_of-begun.ensures c.carry.ensures.carries)
     (λ w. c.feed_end-answer.ensures.becomes g.view w))
+
+pub returns-in-None-clause-knows : goal.returns-in-None-clause-knows
+returns-in-None-clause-knows c names format scene behind =
+    c.conclude.ensures.knows names format scene (c.feed-outcome.ensures.knows (known_by names c.args.self.now.scene) behind.control tt)
+
+pub returns-in-Some-clause-knows : goal.returns-in-Some-clause-knows
+returns-in-Some-clause-knows c names format scene behind =
+    let run = c.args.self.now in
+    let known = known_by names run.scene in
+    let parts = first-known known run.frames c.in-Some.frame c.pop.new.self c.in-Some.ensures.some behind.readings in
+    c.carry.ensures.knows names format scene (record { readings = parts.1; control = behind.control }) (subst (λ s. KnowsStart known s) (sym c.start_of-begun.ensures) (start-known known c.in-Some.frame parts.0)) (c.feed_end-answer.ensures.knows known parts.0)

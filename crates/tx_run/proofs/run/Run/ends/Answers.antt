@@ -1,4 +1,9 @@
-use Rattle.std.proofs.Common.{sym, ◌∙◌, subst}
+use Rattle.tx_run.specs.declared.doing.Doing.TheVariants as doing
+use Rattle.tx_scene.specs.declared.scene.Scene.{Scene}
+use Rattle.tx_run.specs.declared.run.Run.{Run}
+use Rattle.tx_run.proofs.KnowledgeLemmas.{known-on, tokens-known}
+use Rattle.tx_run.specs.Knowledge.{known_by}
+use Rattle.std.proofs.Common.{sym, ◌∙◌, subst, ap}
 use Rattle.tx_private.specs.Readings as private
 use Rattle.tx_private.specs.World.{World, put_in_front}
 use Rattle.tx_opens.specs.Opens.{Comes}
@@ -15,3 +20,9 @@ returns-clause-ends c = λ frozen g is r after o depth.
     let run = c.args.self.now in
     let changes = gone (Changes (λ h w. put_in_front (all_viewed h.view c.args.back) w) run.scene c.put.new.self) c.put.result (sym c.is_err.ensures.value ∙ c.if-is_err.false) c.put.ensures.in_front in
     subst (λ (w : World). Comes o (opens g.view run) (private.Done (value_in g.view c.args.value) w) r) (changes g frozen depth is) (after o depth)
+
+pub returns-clause-knows : goal.returns-clause-knows
+returns-clause-knows c names scene behind value back =
+    let old = c.args.self.now in
+    let new : Run = record old { scene = c.put.new.self; doing = doing.Gives c.args.value } in
+    known-on names old.scene new (ap (λ (s : Scene). s.environment) c.put.ensures.becomes) (c.put.ensures.knows names (tokens-known (known_by names old.scene) c.args.back back) scene) value behind

@@ -16,3 +16,6 @@ returns-clause-leads c = λ g is.
     leads-moves g frozen (move_of g.view effect.End) (move_of g.view effect.Finish) old new c.finishes.result c.finishes.new.self
     (ap (λ (w : World). ended w.environment.groups w) (sym (c.drop_rest.ensures.dropped g frozen 0 is.ground)))
     (c.finishes.ensures.leads g (ground-after c.args.format.now g old new c.drop_rest.ensures.ground is))
+
+pub returns-clause-knows : goal.returns-clause-knows
+returns-clause-knows c names scene = c.finishes.ensures.knows names (c.drop_rest.ensures.knows names scene)

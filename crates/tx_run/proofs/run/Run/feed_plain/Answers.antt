@@ -1,4 +1,6 @@
-use Rattle.std.proofs.Common.{[], ◌∷◌, subst}
+use Rattle.tx_run.proofs.KnowledgeLemmas.{start-known}
+use Rattle.tx_run.specs.Knowledge.{known_by, KnowsStart}
+use Rattle.std.proofs.Common.{[], ◌∷◌, subst, sym}
 use Rattle.tx_eqtb.specs.Meanings.{meanings}
 use Rattle.tx_private.specs.Readings as private
 use Rattle.tx_private.specs.Scans.{letter_of}
@@ -25,3 +27,8 @@ returns-clause-leads c = λ g is.
     let carries = subst (λ (s : Start). CarriesOut format s answer run tick new) c.start_of-begun.ensures c.carry.ensures.carries in
     leads-lettered (letter_given (f ∷ []) c.args.letter) (letter_given (f ∷ []) (letter_of (viewed g.view t))) (ComesPlain g frozen f (private.Tok (command_in g.view t c.args.sense)) run) g frozen tick new (c.carry.ensures.fails g is)
     (λ same. carried format g f (item.Token t c.args.sense) answer run tick new is carries (λ w. c.feed_token-answer.ensures.becomes g.view w same))
+
+pub returns-clause-knows : goal.returns-clause-knows
+returns-clause-knows c names format scene behind frame token means =
+    let known = known_by names c.args.self.now.scene in
+    c.carry.ensures.knows names format scene behind (subst (λ s. KnowsStart known s) (sym c.start_of-begun.ensures) (start-known known c.args.frame frame)) (c.feed_token-answer.ensures.knows known frame token means)

@@ -1,3 +1,5 @@
+use Rattle.tx_run.proofs.KnowledgeLemmas.{start-known, first-known}
+use Rattle.tx_run.specs.Knowledge.{known_by, KnowsStart}
 use Rattle.std.proofs.Common.{[], pos, sym, ◌∙◌, subst}
 use Rattle.tx_eqtb.specs.Meanings.{meanings}
 use Rattle.tx_private.specs.Errors.{numbered}
@@ -53,3 +55,15 @@ feed-outcome-requires c = c.of_value-item.ensures.suits c.args.self.now.command
 
 pub feed-answer-requires : goal.feed-answer-requires
 feed-answer-requires c = suits-value c.in-Some.frame c.args.value (waits-first c.in-Some.frame c.pop.new.self c.args.self.now.frames c.in-Some.ensures.some c.requires.waits).0
+
+pub returns-in-None-clause-knows : goal.returns-in-None-clause-knows
+returns-in-None-clause-knows c names format scene behind value =
+    let known = known_by names c.args.self.now.scene in
+    c.conclude.ensures.knows names format scene (c.feed-outcome.ensures.knows known behind.control (c.of_value-item.ensures.knows known value))
+
+pub returns-in-Some-clause-knows : goal.returns-in-Some-clause-knows
+returns-in-Some-clause-knows c names format scene behind value =
+    let run = c.args.self.now in
+    let known = known_by names run.scene in
+    let parts = first-known known run.frames c.in-Some.frame c.pop.new.self c.in-Some.ensures.some behind.readings in
+    c.carry.ensures.knows names format scene (record { readings = parts.1; control = behind.control }) (subst (λ s. KnowsStart known s) (sym c.start_of-begun.ensures) (start-known known c.in-Some.frame parts.0)) (c.feed-answer.ensures.knows known parts.0 value)

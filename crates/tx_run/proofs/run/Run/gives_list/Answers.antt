@@ -1,3 +1,4 @@
+use Rattle.tx_run.specs.Knowledge.{known_by}
 use Rattle.std.proofs.Common.{◌≡◌, [], pos, sym, ◌∙◌}
 use Rattle.tx_eqtb.specs.Meanings.{meanings}
 use Rattle.tx_private.specs.Errors.{numbered}
@@ -41,3 +42,7 @@ returns-clause-leads c = λ g is.
     leads-map (ComesGiven (commands.open_of g.view run.command) (private.Given v) [] (world g frozen 0 run.scene)) (AnyEnds g frozen v run) g frozen c.conclude.result c.conclude.new.self
     (λ r p. ends-with g frozen v run r (λ depth. sym (c.is_overfull.ensures g frozen depth) ∙ c.if-is_overfull.false) (given-command g frozen run.frames run (private.Given v) r (lacking (run.frames ≡ []) c.last.result (sym c.is_some.ensures ∙ c.if-is_some.false) c.last.ensures.none) p))
     (concluded c.args.format.now g run.command (command_item.List c.args.list) c.feed-outcome.result run c.conclude.result c.conclude.new.self is c.conclude.ensures.concludes (λ w. c.feed-outcome.ensures.becomes g.view w))
+
+pub returns-clause-knows : goal.returns-clause-knows
+returns-clause-knows c names format scene behind list =
+    c.conclude.ensures.knows names format scene (c.feed-outcome.ensures.knows (known_by names c.args.self.now.scene) behind.control list)

@@ -1,4 +1,8 @@
-use Rattle.std.proofs.Common.{refl, sym}
+use Rattle.tx_run.specs.declared.run.Run.{Run}
+use Rattle.tx_run.proofs.MoreLemmas.{more-start, more-described}
+use Rattle.tx_run.proofs.KnowledgeLemmas.{in-place, below-out}
+use Rattle.tx_run.specs.Knowledge.{known_by, known_in, KnowsDoing, KnowsBehind, KnowsRun, KnowsAfter}
+use Rattle.std.proofs.Common.{refl, sym, subst}
 use Rattle.tx_eqtb.specs.Meanings.{meanings}
 use Rattle.tx_run.specs.declared.doing.Doing.TheVariants as doing
 use Rattle.tx_run.specs.declared.op.Op.TheVariants as op
@@ -261,3 +265,42 @@ returns-in-Takes-clause-keeps c = asks-keeps c.args.self.now c.asks-in-Takes.new
 pub returns-in-Takes-clause-asked : goal.returns-in-Takes-clause-asked
 returns-in-Takes-clause-asked c =
     asks-asked c.args.self.now c.asks-in-Takes.new.self (doing.Takes c.in-Takes.prefixes c.in-Takes.place c.in-Takes.meaning c.in-Takes.id) (op.Take c.in-Takes.id) c.asks-in-Takes.result (asks-same c.args.self.now c.asks-in-Takes.new.self (doing.Takes c.in-Takes.prefixes c.in-Takes.place c.in-Takes.meaning c.in-Takes.id) (sym c.in-Takes.ensures.value) c.asks-in-Takes.ensures.becomes) c.asks-in-Takes.ensures.asks (sym c.in-Takes.ensures.value) c.requires.fallen refl
+
+pub returns-in-Prints-clause-knows : goal.returns-in-Prints-clause-knows
+returns-in-Prints-clause-knows c names format knows =
+    let run = c.args.self.now in
+    let d = doing.Prints c.in-Prints.begun c.in-Prints.description in
+    let known = known_in names run.scene d in
+    let by = known_by names run.scene in
+    let below = below-out names run.scene d (λ id. refl) in
+    let there = subst (λ x. KnowsDoing (known_in names run.scene x) x) (sym c.in-Prints.ensures.value) knows.doing in
+    c.printing.ensures.knows names format knows.scene (subst (λ x. KnowsBehind by x run.frames run.command) (sym c.in-Prints.ensures.value) knows.behind)
+    (more-start known by below c.in-Prints.begun there.0) (more-described known by below c.in-Prints.description there.1)
+
+pub returns-in-Finds-clause-knows : goal.returns-in-Finds-clause-knows
+returns-in-Finds-clause-knows c names format knows =
+    let run = c.args.self.now in
+    let d = doing.Finds c.in-Finds.taker in
+    subst (λ t. KnowsAfter names t c.asks.new.self) (sym c.asks.ensures.asks)
+    (subst (λ (r : Run). KnowsRun names r) (sym c.asks.ensures.becomes) (in-place names run d d run.moves (sym c.in-Finds.ensures.value) knows (λ h. h) (λ h. h)))
+
+pub returns-in-Interns-clause-knows : goal.returns-in-Interns-clause-knows
+returns-in-Interns-clause-knows c names format knows =
+    let run = c.args.self.now in
+    let d = doing.Interns c.in-Interns.taker in
+    subst (λ t. KnowsAfter names t c.asks-in-Interns.new.self) (sym c.asks-in-Interns.ensures.asks)
+    (subst (λ (r : Run). KnowsRun names r) (sym c.asks-in-Interns.ensures.becomes) (in-place names run d d run.moves (sym c.in-Interns.ensures.value) knows (λ h. h) (λ h. h)))
+
+pub returns-in-Letter-clause-knows : goal.returns-in-Letter-clause-knows
+returns-in-Letter-clause-knows c names format knows =
+    let run = c.args.self.now in
+    let d = doing.Letter c.in-Letter.number in
+    subst (λ t. KnowsAfter names t c.asks-in-Letter.new.self) (sym c.asks-in-Letter.ensures.asks)
+    (subst (λ (r : Run). KnowsRun names r) (sym c.asks-in-Letter.ensures.becomes) (in-place names run d d run.moves (sym c.in-Letter.ensures.value) knows (λ h. h) (λ h. h)))
+
+pub returns-in-Reads-clause-knows : goal.returns-in-Reads-clause-knows
+returns-in-Reads-clause-knows c names format knows =
+    let run = c.args.self.now in
+    let d = doing.Reads c.in-Reads.begun c.in-Reads.how c.in-Reads.id in
+    subst (λ t. KnowsAfter names t c.asks-in-Reads.new.self) (sym c.asks-in-Reads.ensures.asks)
+    (subst (λ (r : Run). KnowsRun names r) (sym c.asks-in-Reads.ensures.becomes) (in-place names run d d run.moves (sym c.in-Reads.ensures.value) knows (λ h. h) (λ h. h)))

@@ -1,3 +1,4 @@
+use Rattle.tx_run.specs.Knowledge.{known_by}
 use Rattle.std.proofs.Common.{sym, ap}
 use Rattle.tx_scene.specs.Scenes.{world}
 use Rattle.tx_eqtb.specs.Meanings.{meanings}
@@ -18,5 +19,9 @@ returns-in-Some-clause-leads c = λ g is.
     let p = prefixes_in c.args.prefixes in
     let at = address_in g.view c.args.place in
     leads-moves g frozen (move_of g.view (effect.Let c.args.prefixes c.args.place c.args.sense)) (assigns p at (meaning_in g.view c.in-Some.meaning)) old old c.assigns_unheld.result c.assigns_unheld.new.self
-    (ap (λ m. assigns p at m (world g frozen 0 old)) (sym (c.in-Some.ensures g.view)))
+    (ap (λ m. assigns p at m (world g frozen 0 old)) (sym (c.in-Some.ensures.means g.view)))
     (c.assigns_unheld.ensures.leads g is)
+
+pub returns-in-Some-clause-knows : goal.returns-in-Some-clause-knows
+returns-in-Some-clause-knows c names scene place means =
+    c.assigns_unheld.ensures.knows names scene place (c.in-Some.ensures.knows (known_by names c.args.self.now.scene) means)

@@ -1,3 +1,4 @@
+use Rattle.tx_run.specs.Knowledge.{known_by}
 use Rattle.std.proofs.Common.{[], refl}
 use Rattle.tx_eqtb.specs.Meanings.{meanings}
 use Rattle.tx_private.specs.Moves.{move_in}
@@ -13,3 +14,7 @@ returns-clause-leads c = λ g is.
     let k = kind_in g.view c.args.reading.now in
     let w = world_in g (meanings c.args.format.now.frozen) k (opens g.view run) run in
     c.carry.ensures.carries g is (begun k) (move_in k [] w) refl (c.begin-answer.ensures.becomes g.view w)
+
+pub returns-clause-knows : goal.returns-clause-knows
+returns-clause-knows c names format scene behind reading =
+    c.carry.ensures.knows names format scene behind reading (c.begin-answer.ensures.knows (known_by names c.args.self.now.scene) reading)

@@ -1,4 +1,7 @@
-use Rattle.std.proofs.Common.{◌≡◌, sym, ◌∙◌}
+use Rattle.tx_run.specs.declared.run.Run.{Run}
+use Rattle.tx_run.proofs.KnowledgeLemmas.{known-on, ok-known}
+use Rattle.tx_run.specs.Knowledge.{known_by}
+use Rattle.std.proofs.Common.{◌≡◌, sym, ◌∙◌, refl}
 use Rattle.tx_eqtb.specs.Meanings.{meanings}
 use Rattle.tx_private.specs.Texts.{tokens_of}
 use Rattle.tx_describe.specs.Descriptions.{text_in}
@@ -30,3 +33,13 @@ returns-in-Done-clause-leads c = λ g ground.
     copied-text g frozen k around use_of.Front c.args.self.now c.copied.new.self c.text_tokens-tokens.result c.copied.result (tokens_of c.as_slice.result.now) (Does g frozen (doing.Prints c.args.begun c.args.description) c.args.self.now)
     (c.copied.ensures.copied frozen g ground.ground) c.copied.ensures.memory c.text_tokens-tokens.ensures
     (λ r after. front-text g frozen k around c.args.self.now c.as_slice.result.now (λ w. text_in g.view cats c.args.description) r whole after)
+
+pub returns-in-Went-clause-knows : goal.returns-in-Went-clause-knows
+returns-in-Went-clause-knows c names format scene behind start described =
+    let old = c.args.self.now in
+    let new : Run = record old { doing = doing.Prints c.args.begun c.go.new.self } in
+    known-on names old.scene new refl scene (start, c.go.ensures.knows names (known_by names old.scene).list described) behind
+
+pub returns-in-Done-clause-knows : goal.returns-in-Done-clause-knows
+returns-in-Done-clause-knows c names format scene behind start described =
+    c.copied.ensures.knows names scene behind start (ok-known (known_by names c.args.self.now.scene) c.text_tokens-tokens.result _ c.text_tokens-tokens.ensures)

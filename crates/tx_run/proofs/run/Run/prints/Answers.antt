@@ -1,4 +1,9 @@
-use Rattle.std.proofs.Common.{◌≡◌, ◌∷◌, w32, IfOk, sym, subst, ◌∙◌, ap, rules}
+use Rattle.tx_run.specs.declared.doing.Doing.TheVariants as doing
+use Rattle.tx_frames.specs.Knowledge.{KnowsPrint}
+use Rattle.tx_run.specs.declared.run.Run.{Run}
+use Rattle.tx_run.proofs.KnowledgeLemmas.{known-on, sense-described, token-described, ok-known}
+use Rattle.tx_run.specs.Knowledge.{known_by}
+use Rattle.std.proofs.Common.{◌≡◌, ◌∷◌, w32, IfOk, sym, subst, ◌∙◌, ap, rules, refl}
 use Rattle.std.specs.Prelude.{codes}
 use Rattle.std.proofs.lemmas.Int.{to_z-of_z}
 use mir.Val.{SFits}
@@ -95,3 +100,31 @@ returns-in-JobName-clause-leads c = λ g ground.
     subst (λ p. Leads (AnyComes g frozen k around (λ w. private.Again (put_in_front (tokens_of (printed g.view p w)) w)) c.args.self.now) g frozen c.copied-in-JobName.result c.copied-in-JobName.new.self) (sym c.in-JobName.is)
     (copied-text g frozen k around use_of.Front c.args.self.now c.copied-in-JobName.new.self c.text_tokens-tokens.result c.copied-in-JobName.result (tokens_of (codes "texd")) (AnyComes g frozen k around (λ w. private.Again (put_in_front (tokens_of (codes "texd")) w)) c.args.self.now)
     (c.copied-in-JobName.ensures.copied frozen g ground.ground) c.copied-in-JobName.ensures.memory c.text_tokens-tokens.ensures (λ r after. after))
+
+pub returns-in-Token-clause-knows : goal.returns-in-Token-clause-knows
+returns-in-Token-clause-knows c names scene behind start print =
+    let old = c.args.self.now in
+    let known = known_by names old.scene in
+    let new : Run = record old { doing = doing.Prints c.args.begun c.token.result } in
+    let there = subst (λ p. KnowsPrint known p) c.in-Token.is print in
+    known-on names old.scene new refl scene (start, c.token.ensures.knows names known.list (token-described known c.in-Token.token there)) behind
+
+pub returns-in-Meaning-clause-knows : goal.returns-in-Meaning-clause-knows
+returns-in-Meaning-clause-knows c names scene behind start print =
+    let old = c.args.self.now in
+    let known = known_by names old.scene in
+    let new : Run = record old { doing = doing.Prints c.args.begun c.meaning.result } in
+    let there = subst (λ p. KnowsPrint known p) c.in-Meaning.is print in
+    known-on names old.scene new refl scene (start, c.meaning.ensures.knows names known.list (sense-described known c.in-Meaning.sense there)) behind
+
+pub returns-in-Number-clause-knows : goal.returns-in-Number-clause-knows
+returns-in-Number-clause-knows c names scene behind start print =
+    c.copied.ensures.knows names scene behind start (ok-known (known_by names c.args.self.now.scene) c.number_tokens-tokens.result _ c.number_tokens-tokens.ensures)
+
+pub returns-in-Roman-clause-knows : goal.returns-in-Roman-clause-knows
+returns-in-Roman-clause-knows c names scene behind start print =
+    c.copied-in-Roman.ensures.knows names scene behind start (ok-known (known_by names c.args.self.now.scene) c.roman_tokens-tokens.result _ c.roman_tokens-tokens.ensures)
+
+pub returns-in-JobName-clause-knows : goal.returns-in-JobName-clause-knows
+returns-in-JobName-clause-knows c names scene behind start print =
+    c.copied-in-JobName.ensures.knows names scene behind start (ok-known (known_by names c.args.self.now.scene) c.text_tokens-tokens.result (codes "texd") c.text_tokens-tokens.ensures)

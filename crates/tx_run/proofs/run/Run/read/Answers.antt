@@ -1,4 +1,7 @@
-use Rattle.std.proofs.Common.{sym}
+use Rattle.tx_run.specs.declared.doing.Doing.TheVariants as doing
+use Rattle.tx_run.proofs.KnowledgeLemmas.{in-place, tokens-described, known-tokens}
+use Rattle.tx_run.specs.Knowledge.{known_in}
+use Rattle.std.proofs.Common.{sym, ◌-◌}
 use Rattle.tx_run.proofs.TextLemmas.{told-content}
 use Rattle.tx_run.proofs.WishLemmas.{printed-content, read-list}
 use Rattle.tx_run.proofs.run.Run.read.Goals as goal
@@ -17,3 +20,17 @@ returns-in-Prints-clause-answers c = λ g n asks ground content.
 pub returns-in-Tells-clause-answers : goal.returns-in-Tells-clause-answers
 returns-in-Tells-clause-answers c = λ g n asks ground content.
     (told-content g c.args.self.now c.in-Tells.told c.in-Tells.description c.content-in-Tells.new.self c.args.tokens n _ (sym c.in-Tells.ensures.value) c.content-in-Tells.ensures.text asks content, ground)
+
+pub returns-in-Prints-clause-knows : goal.returns-in-Prints-clause-knows
+returns-in-Prints-clause-knows c names tokens knows =
+    let run = c.args.self.now in
+    let known = known_in names run.scene (doing.Prints c.in-Prints.begun c.in-Prints.description) in
+    in-place names run (doing.Prints c.in-Prints.begun c.in-Prints.description) (doing.Prints c.in-Prints.begun c.content.new.self) (run.moves - 1) (sym c.in-Prints.ensures.value) knows
+    (λ h. (h.0, c.content.ensures.knows names known.list (tokens-described known c.args.tokens (known-tokens known c.args.tokens tokens)))) (λ h. h)
+
+pub returns-in-Tells-clause-knows : goal.returns-in-Tells-clause-knows
+returns-in-Tells-clause-knows c names tokens knows =
+    let run = c.args.self.now in
+    let known = known_in names run.scene (doing.Tells c.in-Tells.told c.in-Tells.description) in
+    in-place names run (doing.Tells c.in-Tells.told c.in-Tells.description) (doing.Tells c.in-Tells.told c.content-in-Tells.new.self) (run.moves - 1) (sym c.in-Tells.ensures.value) knows
+    (λ h. c.content-in-Tells.ensures.knows names known.list (tokens-described known c.args.tokens (known-tokens known c.args.tokens tokens))) (λ h. h)

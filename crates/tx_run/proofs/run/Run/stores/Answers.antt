@@ -1,3 +1,7 @@
+use Rattle.tx_frames.specs.declared.value.Value.TheVariants as value
+use Rattle.tx_run.specs.declared.doing.Doing.TheVariants as doing
+use Rattle.tx_run.specs.declared.run.Run.{Run}
+use Rattle.tx_run.proofs.KnowledgeLemmas.{known-on}
 use Rattle.std.proofs.Common.{ap, sym, subst, pos}
 use Rattle.tx_eqtb.specs.Meanings.{meanings}
 use Rattle.tx_private.specs.Errors.{numbered}
@@ -34,3 +38,9 @@ returns-clause-leads c = λ g is r after o depth.
     let further = λ (v : World). private.Done (private.Tokens (all_viewed g.view tokens)) v in
     subst (λ m. Comes o (opens g.view c.args.self.now) m r)
     (sym (stores-more tokens c.store.result old new g frozen depth further c.if-not-store.false c.store.ensures.stores)) (after o depth)
+
+pub returns-clause-knows : goal.returns-clause-knows
+returns-clause-knows c names scene behind tokens =
+    let old = c.args.self.now in
+    let new : Run = record old { scene = c.store.new.self; doing = doing.Gives (value.Tokens c.args.tokens) } in
+    known-on names old.scene new (ap (λ (s : Scene). s.environment) c.store.ensures.becomes) (c.store.ensures.knows names scene) tokens behind

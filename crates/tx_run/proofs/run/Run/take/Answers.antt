@@ -1,3 +1,7 @@
+use Rattle.tx_run.specs.declared.doing.Doing.TheVariants as doing
+use Rattle.tx_run.specs.declared.run.Run.{Run}
+use Rattle.tx_run.proofs.KnowledgeLemmas.{known-on, known-token, open-same}
+use Rattle.tx_run.specs.Knowledge.{known_by}
 use Rattle.std.proofs.Common.{◌≡◌, pos, arith, sym, ap, subst, List, ℕ, IsSomeAnd}
 use Rattle.tx_eqtb.specs.Meanings.{meanings}
 use Rattle.tx_model.specs.Tokens.{Name}
@@ -167,3 +171,30 @@ returns-in-Memory-clause-keeps c =
     let new = c.take.new.self in
     keeps-take old new run.moves run.moves c.take.ensures.ground (ap (λ (s : Scene). s.environment) c.take.ensures.becomes) c.take.ensures.names c.take.ensures.budget
     (left-same old new run.moves c.in-Memory.ensures.spent c.take.ensures.budget)
+
+-- what is taken is known
+pub returns-in-Token-clause-knows : goal.returns-in-Token-clause-knows
+returns-in-Token-clause-knows c names format scene behind =
+    let run = c.args.self.now in
+    c.took.ensures.knows names format (c.take.ensures.knows names scene) (open-same names run.scene c.take.new.self run.frames run.command (ap (λ (s : Scene). s.environment) c.take.ensures.becomes) behind)
+    (known-token (known_by names c.take.new.self) c.in-Token.token (c.in-Token.ensures.known names scene))
+
+pub returns-in-Name-clause-knows : goal.returns-in-Name-clause-knows
+returns-in-Name-clause-knows c names format scene behind =
+    let run = c.args.self.now in
+    let new : Run = record run { scene = c.take.new.self; doing = doing.Finds c.args.taker; moves = 4294967295 } in
+    known-on names run.scene new (ap (λ (s : Scene). s.environment) c.take.ensures.becomes) (c.take.ensures.knows names scene) tt behind
+
+pub returns-in-End-clause-knows : goal.returns-in-End-clause-knows
+returns-in-End-clause-knows c names format scene behind =
+    let run = c.args.self.now in
+    c.ended.ensures.knows names format (c.take.ensures.knows names scene) (open-same names run.scene c.take.new.self run.frames run.command (ap (λ (s : Scene). s.environment) c.take.ensures.becomes) behind)
+
+pub returns-in-Spent-clause-knows : goal.returns-in-Spent-clause-knows
+returns-in-Spent-clause-knows c names format scene behind = c.take.ensures.knows names scene
+
+pub returns-in-Invalid-clause-knows : goal.returns-in-Invalid-clause-knows
+returns-in-Invalid-clause-knows c names format scene behind = c.error.ensures.knows names (c.take.ensures.knows names scene)
+
+pub returns-in-Memory-clause-knows : goal.returns-in-Memory-clause-knows
+returns-in-Memory-clause-knows c names format scene behind = c.take.ensures.knows names scene

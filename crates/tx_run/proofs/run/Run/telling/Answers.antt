@@ -1,4 +1,7 @@
-use Rattle.std.proofs.Common.{◌≡◌, sym, subst, ◌∙◌}
+use Rattle.tx_run.specs.declared.run.Run.{Run}
+use Rattle.tx_run.proofs.KnowledgeLemmas.{known-on}
+use Rattle.tx_run.specs.Knowledge.{known_by}
+use Rattle.std.proofs.Common.{◌≡◌, sym, subst, ◌∙◌, refl}
 use Rattle.tx_eqtb.specs.Meanings.{meanings}
 use Rattle.tx_describe.specs.Descriptions.{text_in}
 use Rattle.tx_run.specs.declared.doing.Doing.TheVariants as doing
@@ -34,3 +37,9 @@ returns-in-Done-clause-leads c = λ g ground.
     let whole : c.as_slice.result.now ≡ text_in g.view cats c.args.description =
     c.as_slice.ensures.value ∙ c.into_text-text.ensures ∙ sym (c.in-Done.ensures.progress.1.1 g.view cats) ∙ c.go.ensures.text g.view cats ground.ground.view in
     subst (λ text. Leads (ComesTold g frozen c.args.told text run) g frozen c.tell.result c.tell.new.self) whole (c.tell.ensures.leads g ground)
+
+pub returns-in-Went-clause-knows : goal.returns-in-Went-clause-knows
+returns-in-Went-clause-knows c names format scene described =
+    let old = c.args.self.now in
+    let new : Run = record old { doing = doing.Tells c.args.told c.go.new.self } in
+    known-on names old.scene new refl scene (c.go.ensures.knows names (known_by names old.scene).list described) tt

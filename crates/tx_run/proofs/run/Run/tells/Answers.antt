@@ -1,4 +1,9 @@
-use Rattle.std.proofs.Common.{◌≡◌, [], w32, sym, subst, rules}
+use Rattle.tx_run.specs.declared.doing.Told.TheVariants as told
+use Rattle.tx_run.specs.declared.doing.Doing.TheVariants as doing
+use Rattle.tx_run.specs.declared.run.Run.{Run}
+use Rattle.tx_run.proofs.KnowledgeLemmas.{known-on, tokens-described}
+use Rattle.tx_run.specs.Knowledge.{known_by}
+use Rattle.std.proofs.Common.{◌≡◌, [], w32, sym, subst, rules, refl, pos}
 use Rattle.std.specs.List.{flat_map}
 use Rattle.std.proofs.lemmas.Int.{to_z-of_z}
 use mir.Val.{SFits}
@@ -52,3 +57,17 @@ returns-in-Error-clause-leads c = λ g ground r after o kind.
     subst (λ f. n ≡ parameter_of (world g (meanings f) 0 s).environment EscapeChar) c.frozen.ensures (c.integer-escape.ensures g 0 ground.ground) in
     subst (λ m. Comes o [] (told m (all_viewed g.view tokens) w) r) (sym c.in-Error.is)
     (subst (λ text. Comes o [] (private.Bad (showing 62 0 text) w) r) (described-list g frozen 0 s tokens n d c.requires.sound shows escape) (after o [] 0))
+
+pub returns-in-Log-clause-knows : goal.returns-in-Log-clause-knows
+returns-in-Log-clause-knows c names scene tokens =
+    let old = c.args.self.now in
+    let known = known_by names old.scene in
+    let new : Run = record old { doing = doing.Tells told.Log c.list-description.result } in
+    known-on names old.scene new refl scene (c.list-description.ensures.knows names known.list (tokens-described known c.args.tokens tokens)) tt
+
+pub returns-in-Error-clause-knows : goal.returns-in-Error-clause-knows
+returns-in-Error-clause-knows c names scene tokens =
+    let old = c.args.self.now in
+    let known = known_by names old.scene in
+    let new : Run = record old { doing = doing.Tells (told.Error (record { no = 62; case = 0; value = pos 0 })) c.list-description.result } in
+    known-on names old.scene new refl scene (c.list-description.ensures.knows names known.list (tokens-described known c.args.tokens tokens)) tt

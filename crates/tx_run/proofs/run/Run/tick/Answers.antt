@@ -36,3 +36,12 @@ returns-in-None-clause-keeps c =
 
 pub returns-in-None-clause-fewer : goal.returns-in-None-clause-fewer
 returns-in-None-clause-fewer c = λ going. omega (arith, c.go.ensures.keeps.left)
+
+pub returns-then-self-lt2-clause-knows : goal.returns-then-self-lt2-clause-knows
+returns-then-self-lt2-clause-knows c names format knows = knows.scene
+
+pub returns-in-Some-clause-knows : goal.returns-in-Some-clause-knows
+returns-in-Some-clause-knows c names format knows = record { scene = knows.scene; doing = knows.doing; behind = knows.behind }
+
+pub returns-in-None-clause-knows : goal.returns-in-None-clause-knows
+returns-in-None-clause-knows c names format knows = c.go.ensures.knows names format (record { scene = knows.scene; doing = knows.doing; behind = knows.behind })

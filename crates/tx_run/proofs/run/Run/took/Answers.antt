@@ -1,3 +1,6 @@
+use Rattle.tx_environment.specs.Holding.{HasNoPooled}
+use Rattle.tx_run.specs.Knowledge.{known_by}
+use Rattle.tx_run.proofs.KnowledgeLemmas.{sense-held}
 use Rattle.std.proofs.Common.{◌≡◌, ℕ, sym, subst}
 use Rattle.tx_eqtb.specs.Meanings.{meanings}
 use Rattle.tx_private.specs.Environment.{meaning_of}
@@ -30,8 +33,15 @@ returns-in-Expanded-clause-leads c = λ g is.
     let text = c.in-Expanded.text in
     let sense = c.sense-sense.result in
     let means : (depth : ℕ) → sense_in g.view sense ≡ meaning_of (world g frozen depth run.scene).environment (viewed g.view t) =
-    λ depth. subst (λ f. sense_in g.view sense ≡ meaning_of (world g (meanings f) depth run.scene).environment (viewed g.view t)) c.frozen.ensures (c.sense-sense.ensures g depth is.ground) in
+    λ depth. subst (λ f. sense_in g.view sense ≡ meaning_of (world g (meanings f) depth run.scene).environment (viewed g.view t)) c.frozen.ensures (c.sense-sense.ensures.means g depth is.ground) in
     subst (λ (who : Taker). Leads (ComesTaken g frozen who t run) g frozen c.carry.result c.carry.new.self) (sym c.in-Expanded.is)
     (leads-map (ComesGiven (begun (expanded_kind text)) (private.Tok (command_in g.view t sense)) (opens g.view run) (world_now g frozen run)) (ComesTaken g frozen (taker.Expanded text) t run) g frozen c.carry.result c.carry.new.self
     (λ r p. taken-token g frozen (taker.Expanded text) t sense run r means p)
     (expanded c.args.format.now g text t sense c.expand-answer.result run c.carry.result c.carry.new.self is c.carry.ensures.carries (λ w. c.expand-answer.ensures.becomes g.view w)))
+
+pub returns-in-Expanded-clause-knows : goal.returns-in-Expanded-clause-knows
+returns-in-Expanded-clause-knows c names format scene behind token =
+    let run = c.args.self.now in
+    let held = c.sense-sense.ensures.holds (subst (λ f. HasNoPooled (meanings f)) (sym c.frozen.ensures) format.none) in
+    let means = sense-held names run.scene c.sense-sense.result held in
+    c.carry.ensures.knows names format scene behind tt (c.expand-answer.ensures.knows (known_by names run.scene) token means)

@@ -1,4 +1,9 @@
-use Rattle.std.proofs.Common.{◌≡◌, None, sym, ◌∙◌, ap, subst}
+use Rattle.tx_run.specs.declared.doing.Doing.TheVariants as doing
+use Rattle.tx_run.specs.declared.run.Run.{Run}
+use Rattle.tx_frames.specs.Knowledge.{KnowsToken}
+use Rattle.tx_run.proofs.KnowledgeLemmas.{known-on}
+use Rattle.tx_run.specs.Knowledge.{known_by}
+use Rattle.std.proofs.Common.{◌≡◌, None, sym, ◌∙◌, ap, subst, refl}
 use Rattle.tx_eqtb.specs.Meanings.{meanings}
 use Rattle.tx_tok.specs.declared.tok.Tok.{Tok}
 use Rattle.tx_tok.specs.declared.tok.Tok.TheVariants as tok
@@ -41,4 +46,17 @@ returns-in_default c = record {
   sound = c.given-in_default.ensures.sound;
   keeps = c.given-in_default.ensures.keeps;
   asked = c.given-in_default.ensures.asked;
+  knows = c.given-in_default.ensures.knows;
+  holds = c.given-in_default.ensures.holds;
 }
+
+pub returns-then-is_scan-clause-knows : goal.returns-then-is_scan-clause-knows
+returns-then-is_scan-clause-knows c names format scene behind token =
+    let old = c.args.self.now in
+    let known = known_by names old.scene in
+    let new : Run = record old { doing = doing.Letter c.in-Name.number } in
+    known-on names old.scene new refl scene (subst (λ (t : Tok). KnowsToken known t) c.in-Name.is token) behind
+
+pub returns-else-is_scan-clause-knows : goal.returns-else-is_scan-clause-knows
+returns-else-is_scan-clause-knows c names format scene behind token =
+    c.given.ensures.knows names format scene behind (subst (λ (t : Tok). KnowsToken (known_by names c.args.self.now.scene) t) c.in-Name.is token)

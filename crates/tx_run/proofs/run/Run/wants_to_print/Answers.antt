@@ -1,3 +1,6 @@
+use Rattle.tx_run.specs.declared.run.Run.{Run}
+use Rattle.tx_run.proofs.KnowledgeLemmas.{known-on, tokens-described, known-tokens}
+use Rattle.tx_run.specs.Knowledge.{known_by}
 use Rattle.std.proofs.Common.{Some, refl, sym, ◌∙◌, ap, subst}
 use Rattle.std.specs.Prelude.{IsTrue}
 use Rattle.tx_eqtb.specs.Meanings.{meanings}
@@ -26,4 +29,11 @@ returns-in-Ok-clause-leads c = λ g ground r after.
     let run = c.args.self.now in
     let place = c.in-Frozen.place in
     prints-on g (meanings c.args.format.now.frozen) c.args.begun c.args.description c.content.new.self run r
-    (c.content.ensures.text g.view run.scene.environment.cats (list.Frozen place) (c.requires.wants ∙ ap Some c.in-Frozen.is) (ground.lists place c.in-Ok.ensures.1 ∙ sym c.in-Ok.ensures.0)) after
+    (c.content.ensures.text g.view run.scene.environment.cats (list.Frozen place) (c.requires.wants ∙ ap Some c.in-Frozen.is) (ground.lists place c.in-Ok.ensures.list.1 ∙ sym c.in-Ok.ensures.list.0)) after
+
+pub returns-in-Ok-clause-knows : goal.returns-in-Ok-clause-knows
+returns-in-Ok-clause-knows c names format scene behind start described =
+    let old = c.args.self.now in
+    let known = known_by names old.scene in
+    let new : Run = record old { doing = doing.Prints c.args.begun c.content.new.self } in
+    known-on names old.scene new refl scene (start, c.content.ensures.knows names known.list (tokens-described known c.in-Ok.tokens (known-tokens known c.in-Ok.tokens (c.in-Ok.ensures.knows names format)))) behind

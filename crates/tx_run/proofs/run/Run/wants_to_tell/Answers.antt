@@ -1,3 +1,6 @@
+use Rattle.tx_run.specs.declared.run.Run.{Run}
+use Rattle.tx_run.proofs.KnowledgeLemmas.{known-on, tokens-described, known-tokens}
+use Rattle.tx_run.specs.Knowledge.{known_by}
 use Rattle.std.proofs.Common.{Some, refl, sym, ◌∙◌, ap, subst}
 use Rattle.std.specs.Prelude.{IsTrue}
 use Rattle.tx_eqtb.specs.Meanings.{meanings}
@@ -39,5 +42,12 @@ returns-in-Ok-clause-leads c = λ g ground r after.
     let place = c.in-Frozen.place in
     let new = c.content.new.self in
     tells-on g frozen c.args.told c.args.description new run r
-    (c.content.ensures.text g.view cats (list.Frozen place) (c.requires.wants ∙ ap Some c.in-Frozen.is) (ground.lists place c.in-Ok.ensures.1 ∙ sym c.in-Ok.ensures.0))
+    (c.content.ensures.text g.view cats (list.Frozen place) (c.requires.wants ∙ ap Some c.in-Frozen.is) (ground.lists place c.in-Ok.ensures.list.1 ∙ sym c.in-Ok.ensures.list.0))
     (told-kept g frozen c.args.told (text_in g.view cats new) run (doing.Tells c.args.told new) run.moves r after)
+
+pub returns-in-Ok-clause-knows : goal.returns-in-Ok-clause-knows
+returns-in-Ok-clause-knows c names format scene described =
+    let old = c.args.self.now in
+    let known = known_by names old.scene in
+    let new : Run = record old { doing = doing.Tells c.args.told c.content.new.self } in
+    known-on names old.scene new refl scene (c.content.ensures.knows names known.list (tokens-described known c.in-Ok.tokens (known-tokens known c.in-Ok.tokens (c.in-Ok.ensures.knows names format)))) tt

@@ -1,3 +1,5 @@
+use Rattle.tx_run.proofs.KnowledgeLemmas.{ok-known}
+use Rattle.tx_run.specs.Knowledge.{known_by}
 use Rattle.std.proofs.Common.{◌≡◌, ◌∷◌, ℕ, List, sym, subst, ◌∙◌, ap}
 use Rattle.tx_eqtb.specs.Meanings.{meanings}
 use Rattle.tx_private.specs.Readings as private
@@ -41,7 +43,7 @@ returns-in-ListAt-clause-leads c = λ g ground r after o kind.
     let around = opens g.view c.args.self.now in
     let depth = depth_of (begun (kind_of g.view c.args.begun) ∷ around) in
     let same : list_in g.view c.list.result ≡ list_at (address_in g.view c.in-ListAt.place) (world g frozen depth s) =
-    subst (λ f. list_in g.view c.list.result ≡ list_at (address_in g.view c.in-ListAt.place) (world g (meanings f) depth s)) c.frozen-in-ListAt.ensures (c.list.ensures g depth ground.ground) in
+    subst (λ f. list_in g.view c.list.result ≡ list_at (address_in g.view c.in-ListAt.place) (world g (meanings f) depth s)) c.frozen-in-ListAt.ensures (c.list.ensures.means g depth ground.ground) in
     subst (λ x. Comes o around (move_of g.view x (world g frozen depth s)) r) (sym c.in-ListAt.is)
     (subst (λ x. Comes o around (private.Done (private.Tokens x) (world g frozen depth s)) r) same (after o depth))
 
@@ -57,7 +59,7 @@ returns-in-TheList-clause-leads c = λ g ground.
     let w = world g frozen depth s in
     let text = c.in-TheList.text in
     let same : list_in g.view c.list-list.result ≡ list_at (address_in g.view c.in-TheList.place) w =
-    subst (λ f. list_in g.view c.list-list.result ≡ list_at (address_in g.view c.in-TheList.place) (world g (meanings f) depth s)) c.frozen-in-TheList.ensures (c.list-list.ensures g depth ground.ground) in
+    subst (λ f. list_in g.view c.list-list.result ≡ list_at (address_in g.view c.in-TheList.place) (world g (meanings f) depth s)) c.frozen-in-TheList.ensures (c.list-list.ensures.means g depth ground.ground) in
     leads-map (AnyComes g frozen k around (used c.use_in.result (list_in g.view c.list-list.result)) run) (AnyComes g frozen k around (move_of g.view c.args.work) run) g frozen c.copies.result c.copies.new.self
     (λ r after o kind. subst (λ x. Comes o around (move_of g.view x w) r) (sym c.in-TheList.is)
     (subst (λ m. Comes o around m r) (c.use_in.ensures (list_in g.view c.list-list.result) w ∙ ap (λ xs. gives_tokens text xs w) same) (after o kind)))
@@ -120,3 +122,7 @@ returns-in-NoQuantity-clause-leads c = λ g ground.
     leads-map (λ r. (o : Open) (outside : List Open) (depth : ℕ) → Comes o outside (private.Bad (showing 21 0 (meaning_text (world g frozen depth run.scene).environment (sense_in g.view c.in-NoQuantity.sense))) (world g frozen depth run.scene)) r) (AnyComes g frozen k around (move_of g.view c.args.work) run) g frozen c.describes.result c.describes.new.self
     (λ r after o kind. subst (λ x. Comes o around (move_of g.view x (world g frozen depth run.scene)) r) (sym c.in-NoQuantity.is) (after o around depth))
     (c.describes.ensures.leads g ground)
+
+pub returns-in-TheAmount-clause-knows : goal.returns-in-TheAmount-clause-knows
+returns-in-TheAmount-clause-knows c names format scene behind start work =
+    c.copied.ensures.knows names scene behind start (ok-known (known_by names c.args.self.now.scene) c.quantity_tokens-tokens.result _ c.quantity_tokens-tokens.ensures)
