@@ -1,6 +1,7 @@
 -- Names, texts and lists that a run is answered with.
 use Rattle.std.specs.Prelude.{Result as MayFail, Ok, Err, IfOk, OnErr}
-use Rattle.std.proofs.Common.{◌≡◌, ℕ, ℤ, Bool, true, false, List, [], ◌∷◌, length, Option, Some, None, IsSomeAnd, nat_le, nat_lt, ◌<◌, ◌+◌, ◌==◌, unwrap_or, if◌then◌else◌, refl, sym, ◌∙◌, ap, subst}
+use Rattle.std.proofs.Common.{◌≡◌, ℕ, ℤ, Bool, true, false, List, [], ◌∷◌, length, drop, Option, Some, None, IsSomeAnd, nat_le, nat_lt, ◌<◌, ◌≤◌, ◌+◌, ◌-◌, ◌==◌, unwrap_or, if◌then◌else◌, arith, refl, sym, ◌∙◌, ap, subst}
+use Rattle.std.proofs.Math.Nat.{le_refl}
 use Rattle.std.proofs.lemmas.Bool.{false≢true}
 use Rattle.std.specs.List.{flat_map}
 use Rattle.tx_tok.specs.declared.tok.Tok.{Tok}
@@ -45,8 +46,8 @@ use Rattle.tx_assign.specs.Assigned.{prefixes_in}
 use Rattle.tx_private.specs.Assignments.{assigns}
 use Rattle.tx_input.specs.declared.input.Input.{Input}
 use Rattle.tx_input.specs.declared.owned.NameLimit.{NameLimit}
-use Rattle.tx_input.specs.Owned.{error_of}
-use Rattle.tx_input.specs.Worlds.{present, new_text, wanted_text}
+use Rattle.tx_input.specs.Owned.{Own, bytes_of, error_of}
+use Rattle.tx_input.specs.Worlds.{present, has_name, new_text, wanted_text}
 use Rattle.tx_input.specs.Takings.{IsNumbered, Agrees, Refuses}
 use Rattle.tx_describe.specs.declared.description.Description.{Description}
 use Rattle.tx_describe.specs.declared.rest.Wanted.{Wanted}
@@ -70,7 +71,7 @@ use Rattle.tx_run.specs.declared.op.Tick.TheVariants as tick
 use Rattle.tx_run.specs.declared.run.Run.{Run}
 use Rattle.tx_run.specs.Readings.{kind_of, taking, behind}
 use Rattle.tx_run.specs.Doings.{TakesName, stored_meaning, used, tells}
-use Rattle.tx_run.specs.Runs.{opens, world_in, world_now, AnyComes, Leads, IsGroundOf, IsSoundFor, ComesTaken, ComesTold, ControlComes, FailsNow, Does, Means, asked, asked_after, asked_for, shared_tokens}
+use Rattle.tx_run.specs.Runs.{opens, world_in, world_now, AnyComes, Leads, IsGroundOf, IsSoundFor, ComesTaken, ComesTold, ControlComes, FailsNow, Does, Means, IsGrown, asked, asked_after, asked_for, shared_tokens}
 use Rattle.tx_run.proofs.RunLemmas.{leads-map}
 
 -- no token that is taken changes the environment
@@ -156,6 +157,27 @@ interned-token g run who n t new e is ground named = (
   λ frozen r after. subst (λ d. Does g frozen d run r) (sym e) (numbered-name g run who n t new is ground named frozen r after),
   record { view = ground.view; formats = is.view g.view g.formats ground.formats named },
 )
+
+-- the names that the session had stay behind the one that has come, if one has
+pub grown-same : (own : Own) → IsGrown own own
+grown-same own =
+    let none : length own - length own ≡ 0 = omega arith in
+    (le_refl (length own), ap (λ n. drop n own) none)
+
+grown-if : (there : Bool) (n bytes : ℕ) (own : Own) → IsGrown own (if there then own else (n, bytes) ∷ own)
+grown-if true n bytes own = grown-same own
+grown-if false n bytes own =
+    let longer : length own ≤ length ((n, bytes) ∷ own) = omega arith in
+    let one : length ((n, bytes) ∷ own) - length own ≡ 1 = omega arith in
+    (longer, ap (λ k. drop k ((n, bytes) ∷ own)) one)
+
+pub names-numbered : (n : ℕ) (old new : Input) (t : Tok) → IsNumbered n old t new → IsGrown old.names new.names
+names-numbered n old new t is =
+    subst (λ (i : Input). IsGrown old.names i.names) (sym is.becomes) (grown-if (has_name n old) n (bytes_of old.names + length (wanted_text old)) old.names)
+
+pub names-found : (number : Option ℕ) (old new : Input) (t : Tok) → IsSomeAnd number (λ n. IsNumbered n old t new) → IsGrown old.names new.names
+names-found None old new t is = absurd is
+names-found (Some n) old new t is = names-numbered n old new t is
 
 -- what is asked for tells what a description wants
 text-number : Option Op → ℕ

@@ -11,7 +11,7 @@ use Rattle.tx_node.specs.declared.BoxNode.{BoxNode}
 use Rattle.tx_eqtb.specs.Meanings.{Map}
 use Rattle.tx_model.specs.Tokens.{Name}
 use Rattle.tx_private.specs.Errors.{numbered}
-use Rattle.tx_private.specs.World.{failure, is_overfull, Takes, Spends, taking, making}
+use Rattle.tx_private.specs.World.{World, failure, is_overfull, Takes, Spends, taking, making}
 use Rattle.tx_private.specs.Readings as private
 use Rattle.tx_private.specs.Reads.{Result, Failed, Spent, counts}
 use Rattle.tx_private.specs.Moves.{move_in}
@@ -130,13 +130,19 @@ pub begins-expanded : (g : Ground) (frozen : Map BoxNode) (text : Bool) (run : R
 begins-expanded g frozen text run r room comes =
     begins g frozen (expanded_kind text) (opens g.view run) run r room (expanded-begins g frozen text (opens g.view run) run r comes)
 
--- main control begins again by the wish of a command that says the same
+-- main control begins by the wish of a command that says the same
+pub region-begins : (g : Ground) (frozen : Map BoxNode) (s : Scene) (frames : List Frame) (c : Command) (w : World) (r : Result) → frames ≡ [] → world g frozen 0 s ≡ w → Begins g.view c (world g frozen 0 s) → Comes (innermost g.view frames c) (outer g.view frames c) (wished g.view (wish_in frames c) (world g frozen (depth_of (opens_in g.view frames c)) s)) r → Comes (begun private.Control) [] (move_in private.Control [] w) r
+region-begins g frozen s frames c w r none is how comes =
+    subst (λ v. Comes (begun private.Control) [] (move_in private.Control [] v) r) is
+    (command-wishes g frozen s frames c (begun private.Control) (move_in private.Control [] (world g frozen 0 s)) r none how.0 how.1 comes)
+
+-- so it does again
 pub control-begins : (g : Ground) (frozen : Map BoxNode) (s : Scene) (frames : List Frame) (c : Command) (run : Run) (r : Result) → run.scene ≡ s → frames ≡ [] → is_overfull (world g frozen 0 s) ≡ false → Begins g.view c (world g frozen 0 s) → Comes (innermost g.view frames c) (outer g.view frames c) (wished g.view (wish_in frames c) (world g frozen (depth_of (opens_in g.view frames c)) s)) r → ControlComes g frozen private.Again run r
 control-begins g frozen s frames c run r e none room how comes o kind =
     subst (λ (x : Scene). Comes o [] (private.Again (world g frozen 0 x)) r) (sym e)
     (comes-again o [] (world g frozen 0 s) r room
     (subst (λ k. Comes (begun k) [] (move_in k [] (world g frozen 0 s)) r) (sym kind)
-    (command-wishes g frozen s frames c (begun private.Control) (move_in private.Control [] (world g frozen 0 s)) r none how.0 how.1 comes)))
+    (region-begins g frozen s frames c (world g frozen 0 s) r none refl how comes)))
 
 -- a token comes, with its present meaning
 pub takes-token : (g : Ground) (frozen : Map BoxNode) (o : Open) (around : List Open) (depth : ℕ) (t : Tok) (old new : Scene) (r : Result) → new.environment ≡ old.environment → is_overfull (world g frozen depth old) ≡ false → taking (world g frozen depth old) ≡ Takes (present (world g frozen depth old) (viewed g.view t)) (world g frozen depth new) → ComesGiven o (private.Tok (present (world g frozen depth new) (viewed g.view t))) around (world g frozen depth new) r → Comes o around (private.Take (world g frozen depth old)) r

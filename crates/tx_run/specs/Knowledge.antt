@@ -1,6 +1,7 @@
 -- What is known of the names and lists that a run has, and by how many references it holds a list.
 use Rattle.std.specs.Prelude.{◌≡◌, ℕ, ◌+◌, ◌<◌, Bool, true, nat_lt, cond, List, [], ◌∷◌, Option, Some, None}
 use Rattle.std.specs.List.{AllByRecursion}
+use Rattle.std.specs.Option.{option_map_or}
 use Rattle.tx_tok.specs.declared.tok.ListRef.{ListRef}
 use Rattle.tx_tok.specs.declared.tok.ListRef.TheVariants as list
 use Rattle.tx_eqtb.specs.Meanings.{meanings}
@@ -113,6 +114,14 @@ KnowsAfter names _ run = KnowsScene names run.scene
 pub record IsEmptyHanded (run : Run) : Type 0 where
   pub fallen : run.fallen ≡ None
   pub doing : (id : ℕ) → in_hand id run.doing ≡ 0
+
+-- how many lists may be in hand: one that has fallen away, and that of a meaning that is to be assigned
+abbrev pub hands_of : Doing → ℕ
+hands_of (doing.Assigns p place m) = 1
+hands_of _ = 0
+
+abbrev pub hands : Run → ℕ
+hands run = option_map_or (λ id. 1) run.fallen 0 + hands_of run.doing
 
 -- No reference is lost and none is made, where by so many more this held a list.
 abbrev pub HoldsWith : (ℕ → ℕ) → Run → Run → Type 0

@@ -1,5 +1,5 @@
 -- What a run means: how the region goes on from here.
-use Rattle.std.specs.Prelude.{◌≡◌, ℕ, ◌+◌, ◌-◌, ◌*◌, ◌^◌, ◌<◌, ◌≤◌, Bool, false, List, [], ◌∷◌, map, length, Option, Some, None, IsSome, get_or}
+use Rattle.std.specs.Prelude.{◌≡◌, ℕ, ◌+◌, ◌-◌, ◌*◌, ◌^◌, ◌<◌, ◌≤◌, Bool, false, List, [], ◌∷◌, map, length, drop, Option, Some, None, IsSome, get_or}
 use Rattle.std.specs.List.{AllByRecursion}
 use Rattle.tx_tok.specs.declared.tok.Tok.TheVariants as tok
 use Rattle.tx_tok.specs.declared.tok.ListRef.TheVariants as list
@@ -15,7 +15,8 @@ use Rattle.tx_private.specs.Errors.{Error}
 use Rattle.tx_private.specs.World.{World, Failure, failure, put_in_front}
 use Rattle.tx_private.specs.Readings as private
 use Rattle.tx_private.specs.Reads.{Result, Gave, Failed, Spent}
-use Rattle.tx_private.specs.Region.{outcome_of, outcome_by}
+use Rattle.tx_private.specs.Moves.{move_in}
+use Rattle.tx_private.specs.Region.{State, started, outcome_of, outcome_by}
 use Rattle.tx_private.specs.Scans.{letter_of}
 use Rattle.tx_private.specs.Texts.{tokens_of}
 use Rattle.tx_private.specs.Assignments.{assigns}
@@ -26,7 +27,7 @@ use Rattle.tx_views.specs.Meanings.{meaning_in}
 use Rattle.tx_assign.specs.Assigned.{prefixes_in}
 use Rattle.tx_environment.specs.Soundness.{IsSound, IsClosing, IsFirst}
 use Rattle.tx_environment.specs.Steps.{IsOpen, IsOutermost}
-use Rattle.tx_input.specs.Owned.{error_of}
+use Rattle.tx_input.specs.Owned.{Own, error_of}
 use Rattle.tx_input.specs.Worlds.{present, wanted_text}
 use Rattle.tx_input.specs.Takings.{limit_in, Agrees}
 use Rattle.tx_describe.specs.Descriptions.{text_in, wants}
@@ -129,6 +130,10 @@ Does g frozen doing.NoMemory run r = ⊥
 -- how the region goes on from a run
 abbrev pub Means : Ground → Map BoxNode → Run → Result → Type 0
 Means g frozen run r = Does g frozen run.doing run r
+
+-- a region that began so comes to this
+abbrev pub ComesFrom : State → Bool → List ℕ → ℕ → Result → Type 0
+ComesFrom s preamble text budget r = Comes (begun private.Control) [] (move_in private.Control [] (started s preamble text budget)) r
 
 -- the world that is left at the end
 abbrev pub last_world : Ground → Map BoxNode → Run → World
@@ -256,13 +261,18 @@ IsAsked _ run = Unit {0}
 abbrev pub Answers : Ground → Run → Run → Type 0
 Answers g old new = (frozen : Map BoxNode) (r : Result) → Means g frozen new r → Means g frozen old r
 
+-- the session's own names from before come behind the new one, if there is one
+abbrev pub IsGrown : Own → Own → Type 0
+IsGrown old new = (length old ≤ length new) × (drop (length new - length old) new ≡ old)
+
 -- what an answer keeps
 pub record AnswerKeeps (old new : Run) : Type 0 where
   pub environment : new.scene.environment ≡ old.scene.environment
   pub sound : (frozen : Map BoxNode) → IsSoundFor frozen old.doing old.scene → IsSoundFor frozen new.doing new.scene
   pub waits : AreWaiting old.doing old.frames → AreWaiting new.doing new.frames
   pub steps : new.scene.input.steps ≡ old.scene.input.steps
-  pub moves : new.moves + 1 ≡ old.moves
+  pub moves : new.moves ≡ old.moves - 1
+  pub names : IsGrown old.scene.input.names new.scene.input.names
 
 -- the list that is to be shared
 abbrev pub shared_tokens : Doing → Option (List Tok)

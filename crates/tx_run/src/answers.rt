@@ -45,13 +45,12 @@ impl Run {
     pub fn found(&mut self, number: Option<u64>)
         requires asked { asked self.old ≡ Some op.Find }
         requires wanted { IsSome self.old.scene.input.wanted }
-        requires moves { 0 < self.old.moves }
         ensures answers { (g : Ground) → IsGround g self.old.scene → Agrees number g.view self.old.scene.input → Answers g self.old self.new × IsGround g self.new.scene }
         ensures keeps { AnswerKeeps self.old self.new }
         ensures knows { (names : ℕ → Bool) → IfSome number (λ n. names n ≡ true) → KnowsRun names self.old → KnowsRun names self.new }
         ensures holds { (id : ℕ) → held_by id self.new ≡ held_by id self.old }
     {
-        self.moves -= 1;
+        self.moves = self.moves.saturating_sub(1);
         if let Doing::Finds(taker) = self.doing {
             match self.scene.input.found(number) {
                 Found::Token(token) => self.doing = Doing::Took(taker, token),
@@ -67,13 +66,12 @@ impl Run {
         requires asked { asked self.old ≡ Some op.Intern }
         requires wanted { IsSome self.old.scene.input.wanted }
         requires room { limit_in self.old.scene.input ≡ None }
-        requires moves { 0 < self.old.moves }
         ensures answers { (g : Ground) → IsGround g self.old.scene → g.view.naming number ≡ wanted_text self.old.scene.input → Answers g self.old self.new × IsGround g self.new.scene }
         ensures keeps { AnswerKeeps self.old self.new }
         ensures knows { (names : ℕ → Bool) → names number ≡ true → KnowsRun names self.old → KnowsRun names self.new }
         ensures holds { (id : ℕ) → held_by id self.new ≡ held_by id self.old }
     {
-        self.moves -= 1;
+        self.moves = self.moves.saturating_sub(1);
         if let Doing::Interns(taker) = self.doing {
             match self.scene.input.interned(number) {
                 Ok(token) => self.doing = Doing::Took(taker, token),
@@ -85,13 +83,12 @@ impl Run {
     /// The answer to `Text`: the text of the name.
     pub fn text(&mut self, text: &[u8])
         requires asked { IsSomeAnd (asked self.old) IsForText }
-        requires moves { 0 < self.old.moves }
         ensures answers { (g : Ground) (number : ℕ) → asked self.old ≡ Some (op.Text number) → IsGround g self.old.scene → g.view.naming number ≡ text.now → Answers g self.old self.new × IsGround g self.new.scene }
         ensures keeps { AnswerKeeps self.old self.new }
         ensures knows { (names : ℕ → Bool) → KnowsRun names self.old → KnowsRun names self.new }
         ensures holds { (id : ℕ) → held_by id self.new ≡ held_by id self.old }
     {
-        self.moves -= 1;
+        self.moves = self.moves.saturating_sub(1);
         match mem::replace(&mut self.doing, Doing::NoMemory) {
             Doing::Letter(number) => {
                 let token = Tok::Name(number);
@@ -118,13 +115,12 @@ impl Run {
     /// The answer to `Read`: the content of the list.
     pub fn read(&mut self, tokens: Toks)
         requires asked { IsSomeAnd (asked self.old) IsForList }
-        requires moves { 0 < self.old.moves }
         ensures answers { (g : Ground) (id : ℕ) → asked self.old ≡ Some (op.Read id) → IsGround g self.old.scene → g.view.content (list.Pooled id) ≡ tokens → Answers g self.old self.new × IsGround g self.new.scene }
         ensures keeps { AnswerKeeps self.old self.new }
         ensures knows { (names : ℕ → Bool) → AllKnown names tokens → KnowsRun names self.old → KnowsRun names self.new }
         ensures holds { (id : ℕ) → held_by id self.new ≡ held_by id self.old }
     {
-        self.moves -= 1;
+        self.moves = self.moves.saturating_sub(1);
         match mem::replace(&mut self.doing, Doing::NoMemory) {
             Doing::Reads(begun, how, _) => self.doing = Doing::Copies(begun, how, tokens),
             Doing::Prints(begun, description) => {
@@ -144,13 +140,12 @@ impl Run {
     /// The answer to `Share`: a reference to the list, which the session holds from now on.
     pub fn shared(&mut self, list: ListRef)
         requires asked { asked self.old ≡ Some op.Share }
-        requires moves { 0 < self.old.moves }
         ensures answers { (g : Ground) (tokens : List Tok) → shared_tokens self.old.doing ≡ Some tokens → IsGround g self.old.scene → g.view.content list ≡ tokens → Answers g self.old self.new × IsGround g self.new.scene }
         ensures keeps { AnswerKeeps self.old self.new }
         ensures knows { (names : ℕ → Bool) → KnowsRun names self.old → KnowsRun names self.new }
         ensures holds { (id : ℕ) → held_by id self.new ≡ held_by id self.old + counts_as id (pooled_in list) }
     {
-        self.moves -= 1;
+        self.moves = self.moves.saturating_sub(1);
         match mem::replace(&mut self.doing, Doing::NoMemory) {
             Doing::Shares(prefixes, place, stored, _tokens) => {
                 self.doing = Doing::Assigns(prefixes, place, stored_meaning(stored, list));
@@ -162,13 +157,12 @@ impl Run {
     /// The answer to `Take`: the session holds the list once more.
     pub fn took_list(&mut self)
         requires asked { IsSomeAnd (asked self.old) IsForTake }
-        requires moves { 0 < self.old.moves }
         ensures answers { (g : Ground) → IsGround g self.old.scene → Answers g self.old self.new × IsGround g self.new.scene }
         ensures keeps { AnswerKeeps self.old self.new }
         ensures knows { (names : ℕ → Bool) → KnowsRun names self.old → KnowsRun names self.new }
         ensures holds { (names : ℕ → Bool) → KnowsRun names self.old → (number : ℕ) → asked self.old ≡ Some (op.Take number) → (id : ℕ) → held_by id self.new ≡ held_by id self.old + counts_as id (Some number) }
     {
-        self.moves -= 1;
+        self.moves = self.moves.saturating_sub(1);
         match mem::replace(&mut self.doing, Doing::NoMemory) {
             Doing::Takes(prefixes, place, meaning, _) => {
                 self.doing = Doing::Assigns(prefixes, place, meaning);
@@ -179,20 +173,18 @@ impl Run {
 
     /// The answer to `Release`: the session holds the list once less.
     pub fn released(&mut self)
-        requires moves { 0 < self.old.moves }
         ensures answers { (g : Ground) → IsGround g self.old.scene → Answers g self.old self.new × IsGround g self.new.scene }
         ensures fallen { self.new.fallen ≡ None }
         ensures keeps { AnswerKeeps self.old self.new }
         ensures knows { (names : ℕ → Bool) → KnowsRun names self.old → KnowsRun names self.new }
         ensures holds { (id : ℕ) → held_by id self.new + counts_as id self.old.fallen ≡ held_by id self.old }
     {
-        self.moves -= 1;
+        self.moves = self.moves.saturating_sub(1);
         self.fallen = None;
     }
 
     /// The answer to any operation for which memory was wanting.
     pub fn no_memory(&mut self)
-        requires moves { 0 < self.old.moves }
         ensures answers { (g : Ground) → IsGround g self.old.scene → Answers g self.old self.new × IsGround g self.new.scene }
         ensures fallen { self.new.fallen ≡ self.old.fallen }
         ensures scene { self.new.scene ≡ self.old.scene }
@@ -200,7 +192,7 @@ impl Run {
         ensures knows { (names : ℕ → Bool) → KnowsRun names self.old → KnowsRun names self.new }
         ensures holds { IsSome (asked_by self.old.doing) → (id : ℕ) → held_by id self.new ≡ held_by id self.old }
     {
-        self.moves -= 1;
+        self.moves = self.moves.saturating_sub(1);
         self.doing = Doing::NoMemory;
     }
 }

@@ -28,3 +28,4 @@ mod works;
 pub use doing::{Doing, Start, Stored, Taker, Told, Use};
 pub use op::{Op, Tick};
 pub use run::Run;
+pub use senses::pooled;

@@ -1,16 +1,24 @@
 //! A run of a region.
 
-ghost use Rattle.std.specs.Prelude.{ℕ, Bool, ◌<◌, None, ◌≡◌, []};
+ghost use Rattle.std.specs.Prelude.{ℕ, Bool, ◌<◌, ◌+◌, None, ◌≡◌, [], IfSome, IfNone};
+ghost use Rattle.tx_node.specs.declared.BoxNode.{BoxNode};
+ghost use Rattle.tx_private.specs.Reads.{Result};
+ghost use Rattle.tx_environment.specs.Soundness.{IsPresent};
+ghost use Rattle.tx_environment.specs.Steps.{IsOutermost};
+ghost use Rattle.tx_scene.specs.Scenes.{Ground, state_in};
+ghost use Rattle.tx_scene.specs.Changes.{KeepsGround};
 ghost use Rattle.tx_scene.specs.Knowledge.{KnowsScene, references};
-ghost use Rattle.tx_run.specs.Knowledge.{held_by, KnowsFormat, KnowsRun, KnowsAfter};
-ghost use Rattle.tx_eqtb.specs.Meanings.{meanings};
+ghost use Rattle.tx_run.specs.Knowledge.{counts_as, hands, held_by, IsEmptyHanded, KnowsFormat, KnowsRun, KnowsAfter};
+ghost use Rattle.tx_eqtb.specs.Meanings.{Map, meanings};
 ghost use Rattle.tx_run.specs.declared.doing.Doing.TheVariants as doing;
-ghost use Rattle.tx_run.specs.Runs.{Means, LeadsFor, IsSoundFor, IsSoundAfter, AreWaiting, Keeps, IsAsked, IsGoing, left};
+ghost use Rattle.tx_run.specs.Runs.{Means, ComesFrom, LeadsFor, IsSoundFor, IsSoundAfter, AreWaiting, Keeps, IsAsked, IsGoing, left};
 
 use crate::doing::Doing;
 use crate::frames::Frames;
 use crate::op::{Op, Tick};
+use crate::senses::pooled;
 use std::mem;
+use tx_bytes::Bytes;
 use tx_commands::{Command, start};
 use tx_format::Format;
 use tx_scene::Scene;
@@ -52,6 +60,45 @@ impl Run {
         }
     }
 
+    /// Begins a region of this text with this budget of steps, outside of all groups, where nothing is in hand. *TeX: The
+    /// Program*, part 46.
+    pub fn begin(&mut self, text: Bytes, budget: u32)
+        requires journal { self.old.scene.environment.table.journal ≡ [] }
+        requires outermost { IsOutermost self.old.scene.environment }
+        requires empty { IsEmptyHanded self.old }
+        ensures means { (g : Ground) (frozen : Map BoxNode) (r : Result) → Means g frozen self.new r → ComesFrom (state_in g frozen self.old.scene) self.old.scene.preamble text budget r }
+        ensures ground { KeepsGround self.old.scene self.new.scene }
+        ensures sound { (frozen : Map BoxNode) → IsPresent frozen self.old.scene.environment → IsSoundFor frozen self.new.doing self.new.scene }
+        ensures waits { AreWaiting self.new.doing self.new.frames }
+        ensures environment { self.new.scene.environment ≡ record self.old.scene.environment { first = self.old.scene.environment.cats } }
+        ensures names { self.new.scene.input.names ≡ self.old.scene.input.names }
+        ensures knows { (names : ℕ → Bool) → KnowsScene names self.old.scene → KnowsRun names self.new }
+        ensures holds { (id : ℕ) → held_by id self.new ≡ held_by id self.old }
+    {
+        self.scene.begin(text, budget);
+        self.command = start();
+        self.frames = Frames::new(self.scene.alloc);
+        self.doing = Doing::Wishes;
+        self.moves = MOST_MOVES;
+    }
+
+    /// Hands out a list that a region's end leaves in hand: what has fallen away, or that of a meaning that was to be
+    /// assigned. None comes exactly where nothing is in hand. The region goes on no more.
+    pub fn falls(&mut self) -> Option<u64>
+        ensures scene { self.new.scene ≡ self.old.scene }
+        ensures holds { (id : ℕ) → held_by id self.new + counts_as id result ≡ held_by id self.old }
+        ensures fewer { IfSome result (λ id. hands self.new < hands self.old) }
+        ensures empty { IfNone result (IsEmptyHanded self.new) }
+    {
+        if let Some(id) = self.fallen.take() {
+            return Some(id);
+        }
+        match mem::replace(&mut self.doing, Doing::NoMemory) {
+            Doing::Assigns(_, _, meaning) => pooled(&meaning),
+            _ => None,
+        }
+    }
+
     /// Goes on by one step of the work. Where it asks for an operation, that is to be answered before the next tick. A
     /// tick takes one token at the most. The error that ends a region is the definitions'; `Spent` comes exactly where
     /// a token is there and no step is left. *TeX: The Program*, part 46.
@@ -66,7 +113,7 @@ impl Run {
         ensures knows { (names : ℕ → Bool) → KnowsFormat names format.now → KnowsRun names self.old → KnowsAfter names result self.new }
         ensures holds { (id : ℕ) → held_by id self.new ≡ held_by id self.old }
     {
-        if self.moves < 2 {
+        if self.moves == 0 {
             return Tick::Memory;
         }
         self.moves -= 1;

@@ -63,7 +63,7 @@ pub(crate) fn relax() -> Option<Meaning<BoxNode>>
 }
 
 /// The number of the list of the pool that a meaning has, if it has one.
-pub(crate) fn pooled(meaning: &Meaning<BoxNode>) -> Option<u64>
+pub fn pooled(meaning: &Meaning<BoxNode>) -> Option<u64>
     ensures { result ≡ pooled_of meaning.now }
 {
     match meaning {

@@ -1,7 +1,7 @@
 use Rattle.tx_run.specs.declared.doing.Doing.TheVariants as doing
 use Rattle.tx_run.proofs.KnowledgeLemmas.{in-place, tokens-described, known-tokens}
 use Rattle.tx_run.specs.Knowledge.{known_in}
-use Rattle.std.proofs.Common.{sym, ◌-◌}
+use Rattle.std.proofs.Common.{sym}
 use Rattle.tx_run.proofs.TextLemmas.{told-content}
 use Rattle.tx_run.proofs.WishLemmas.{printed-content, read-list}
 use Rattle.tx_run.proofs.run.Run.read.Goals as goal
@@ -25,12 +25,12 @@ pub returns-in-Prints-clause-knows : goal.returns-in-Prints-clause-knows
 returns-in-Prints-clause-knows c names tokens knows =
     let run = c.args.self.now in
     let known = known_in names run.scene (doing.Prints c.in-Prints.begun c.in-Prints.description) in
-    in-place names run (doing.Prints c.in-Prints.begun c.in-Prints.description) (doing.Prints c.in-Prints.begun c.content.new.self) (run.moves - 1) (sym c.in-Prints.ensures.value) knows
+    in-place names run (doing.Prints c.in-Prints.begun c.in-Prints.description) (doing.Prints c.in-Prints.begun c.content.new.self) c.saturating_sub-self.result (sym c.in-Prints.ensures.value) knows
     (λ h. (h.0, c.content.ensures.knows names known.list (tokens-described known c.args.tokens (known-tokens known c.args.tokens tokens)))) (λ h. h)
 
 pub returns-in-Tells-clause-knows : goal.returns-in-Tells-clause-knows
 returns-in-Tells-clause-knows c names tokens knows =
     let run = c.args.self.now in
     let known = known_in names run.scene (doing.Tells c.in-Tells.told c.in-Tells.description) in
-    in-place names run (doing.Tells c.in-Tells.told c.in-Tells.description) (doing.Tells c.in-Tells.told c.content-in-Tells.new.self) (run.moves - 1) (sym c.in-Tells.ensures.value) knows
+    in-place names run (doing.Tells c.in-Tells.told c.in-Tells.description) (doing.Tells c.in-Tells.told c.content-in-Tells.new.self) c.saturating_sub-self.result (sym c.in-Tells.ensures.value) knows
     (λ h. c.content-in-Tells.ensures.knows names known.list (tokens-described known c.args.tokens (known-tokens known c.args.tokens tokens))) (λ h. h)

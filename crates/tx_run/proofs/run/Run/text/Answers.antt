@@ -1,7 +1,7 @@
 use Rattle.tx_run.specs.declared.doing.Doing.TheVariants as doing
 use Rattle.tx_run.proofs.KnowledgeLemmas.{in-place}
 use Rattle.tx_run.specs.Knowledge.{known_in}
-use Rattle.std.proofs.Common.{sym, ◌-◌}
+use Rattle.std.proofs.Common.{sym}
 use Rattle.tx_run.proofs.TextLemmas.{told-text}
 use Rattle.tx_run.proofs.WishLemmas.{printed-text}
 use Rattle.tx_run.proofs.run.Run.text.Goals as goal
@@ -19,11 +19,11 @@ returns-in-Ok-text-clause-answers c = λ g n asks ground named.
 pub returns-in-Ok-clause-knows : goal.returns-in-Ok-clause-knows
 returns-in-Ok-clause-knows c names knows =
     let run = c.args.self.now in
-    in-place names run (doing.Prints c.in-Prints.begun c.in-Prints.description) (doing.Prints c.in-Prints.begun c.text.new.self) (run.moves - 1) (sym c.in-Prints.ensures.value) knows
+    in-place names run (doing.Prints c.in-Prints.begun c.in-Prints.description) (doing.Prints c.in-Prints.begun c.text.new.self) c.saturating_sub-self.result (sym c.in-Prints.ensures.value) knows
     (λ h. (h.0, c.text.ensures.knows names (known_in names run.scene (doing.Prints c.in-Prints.begun c.in-Prints.description)).list h.1)) (λ h. h)
 
 pub returns-in-Ok-text-clause-knows : goal.returns-in-Ok-text-clause-knows
 returns-in-Ok-text-clause-knows c names knows =
     let run = c.args.self.now in
-    in-place names run (doing.Tells c.in-Tells.told c.in-Tells.description) (doing.Tells c.in-Tells.told c.text-in-Tells.new.self) (run.moves - 1) (sym c.in-Tells.ensures.value) knows
+    in-place names run (doing.Tells c.in-Tells.told c.in-Tells.description) (doing.Tells c.in-Tells.told c.text-in-Tells.new.self) c.saturating_sub-self.result (sym c.in-Tells.ensures.value) knows
     (λ h. c.text-in-Tells.ensures.knows names (known_in names run.scene (doing.Tells c.in-Tells.told c.in-Tells.description)).list h) (λ h. h)

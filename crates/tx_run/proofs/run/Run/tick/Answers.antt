@@ -8,8 +8,8 @@ use Rattle.tx_run.proofs.WishLemmas.{does-moves, keeps-later}
 use Rattle.tx_run.proofs.run.Run.tick.Goals as goal
 
 -- too many ticks came
-pub returns-then-self-lt2-clause-sound : goal.returns-then-self-lt2-clause-sound
-returns-then-self-lt2-clause-sound c = sound-first (meanings c.args.format.now.frozen) c.args.self.now.doing c.args.self.now.scene c.requires.sound
+pub returns-then-self-eq0-clause-sound : goal.returns-then-self-eq0-clause-sound
+returns-then-self-eq0-clause-sound c = sound-first (meanings c.args.format.now.frozen) c.args.self.now.doing c.args.self.now.scene c.requires.sound
 
 -- what has fallen away is to be released
 pub returns-in-Some-clause-leads : goal.returns-in-Some-clause-leads
@@ -37,8 +37,8 @@ returns-in-None-clause-keeps c =
 pub returns-in-None-clause-fewer : goal.returns-in-None-clause-fewer
 returns-in-None-clause-fewer c = λ going. omega (arith, c.go.ensures.keeps.left)
 
-pub returns-then-self-lt2-clause-knows : goal.returns-then-self-lt2-clause-knows
-returns-then-self-lt2-clause-knows c names format knows = knows.scene
+pub returns-then-self-eq0-clause-knows : goal.returns-then-self-eq0-clause-knows
+returns-then-self-eq0-clause-knows c names format knows = knows.scene
 
 pub returns-in-Some-clause-knows : goal.returns-in-Some-clause-knows
 returns-in-Some-clause-knows c names format knows = record { scene = knows.scene; doing = knows.doing; behind = knows.behind }

@@ -1,0 +1,4 @@
+pub mod ViewLemmas
+pub mod OpenLemmas
+pub mod MapLemmas
+pub mod RunLemmas

@@ -1,0 +1,11 @@
+//! A session's regions over a store of names and lists.
+#![tactic(auto)]
+
+mod answer;
+mod begin;
+mod region;
+#[cfg(test)]
+mod tests;
+
+pub use begin::begin_session;
+pub use region::run_region;
