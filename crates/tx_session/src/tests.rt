@@ -1,6 +1,6 @@
 //! Regions over a plain store, by what they print.
 
-use crate::{begin_session, run_region};
+use crate::{begin_session, has_reading, run_region};
 use std::test::Fail;
 use tx_bytes::Bytes;
 use tx_engine::End;
@@ -38,5 +38,6 @@ fn a_session(rt: HostRuntime) -> Result<(), Fail> {
     let fifth = Bytes::from_slice(alloc, b"\\message{\\the\\count9\\a}")?;
     let ended = run_region(&(), &mut store, &format, &mut engine, fifth, 9);
     assert_eq!(rt; ended, End::Spent);
+    has_reading(&store);
     Ok(())
 }
